@@ -8,7 +8,7 @@ use Rattle.bidi_lines.specs.Devices.{ReadsOn}
 use Rattle.bidi_lines.specs.Feeds.{has_feed, ended}
 use Rattle.bidi_lines.specs.declared.line_reader.InputFault.{InputFault}
 use Rattle.bidi_lines.specs.declared.line_reader.InputFault.TheVariants.{Read, BadLine, NoMemory}
-use Rattle.bidi_lines.specs.InputLines.{IsLine, BeginsBadly, Says, given}
+use Rattle.bidi_lines.specs.InputLines.{IsLine, BeginsBadly, Says, given, says_of}
 use Rattle.bidi_lines.proofs.FeedLemmas.{no_feed_front}
 use Rattle.bidi_lines.proofs.ResultLemmas.{no_truth}
 
@@ -34,12 +34,12 @@ no_more old new [] e same = e ∙ append-nil old
 no_more old new more e same = let l = ap length e in absurd (omega (arith, l, length-append old more))
 
 -- after a fault of a read, the held bytes may be the beginning of a line
-pub says_fault : (r : Result (Option (Vec ℕ)) InputFault) (fault : InputFault) (at_end : Bool) (held : List ℕ) → IsErr r × IsErrAnd r (λ x. x ≡ fault)
-    → fault ≢ BadLine → has_feed held ≡ false → length held ≤ 2097152 → Says r at_end held
-says_fault (Ok x) fault at_end held e good none short = absurd (no_truth e.0)
-says_fault (Err Read) fault at_end held e good none short = record { one_line = none; short = short }
-says_fault (Err BadLine) fault at_end held e good none short = absurd (good (sym e.1))
-says_fault (Err NoMemory) fault at_end held e good none short = tt
+pub says_fault : {L : Type 0} (bytes_of : L → List ℕ) (r : Result (Option L) InputFault) (fault : InputFault) (at_end : Bool) (held : List ℕ)
+    → IsErr r × IsErrAnd r (λ x. x ≡ fault) → fault ≢ BadLine → has_feed held ≡ false → length held ≤ 2097152 → says_of bytes_of r at_end held
+says_fault bytes_of (Ok x) fault at_end held e good none short = absurd (no_truth e.0)
+says_fault bytes_of (Err Read) fault at_end held e good none short = record { one_line = none; short = short }
+says_fault bytes_of (Err BadLine) fault at_end held e good none short = absurd (good (sym e.1))
+says_fault bytes_of (Err NoMemory) fault at_end held e good none short = tt
 
 -- the line that an answer gives
 pub given_line : (a b : Option (List ℕ)) (rest rest' : List ℕ) (at_end : Bool) (found : Option (Vec ℕ)) (line : Vec ℕ) → found ≡ Some line

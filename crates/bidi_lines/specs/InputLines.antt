@@ -2,6 +2,7 @@
 use Rattle.std.specs.Prelude.{◌≡◌, ◌≢◌, ℕ, suc, ◌<◌, ◌≤◌, ◌⊎◌, Bool, true, false, List, [], length, take, Option, Some, None, Result, Ok, Err, ⊤}
 use Rattle.std.specs.List.{flat_map}
 use Rattle.std.specs.Global.{Vec}
+use Rattle.std.specs.Borrow.{Bor}
 use Rattle.bidi_lines.specs.Feeds.{has_feed, ended}
 use Rattle.bidi_lines.specs.declared.line_reader.InputFault.{InputFault}
 use Rattle.bidi_lines.specs.declared.line_reader.InputFault.TheVariants.{Read, BadLine, NoMemory}
@@ -32,21 +33,37 @@ pub record BeginsBadly (at_end : Bool) (bytes : List ℕ) : Type 0 where
 abbrev pub HasLine : Bool → List ℕ → Type 0
 HasLine at_end bytes = (has_feed bytes ≡ true) ⊎ ((longest_line < length bytes) ⊎ ((at_end ≡ true) × (bytes ≢ [])))
 
--- the bytes that an answer of the reader returns: a line with its line feed, or none
-abbrev pub given : Result (Option (Vec ℕ)) InputFault → List ℕ
-given (Ok (Some line)) = ended line.items
-given (Ok None) = []
-given (Err fault) = []
+-- the bytes that an answer hands out: a line with its line feed, or none; `bytes_of` gives the bytes of the line in the answer
+abbrev pub given_of : {L : Type 0} → (L → List ℕ) → Result (Option L) InputFault → List ℕ
+given_of bytes_of (Ok (Some line)) = ended (bytes_of line)
+given_of bytes_of (Ok None) = []
+given_of bytes_of (Err fault) = []
 
 -- the state of the reader after an answer: `held` are the bytes that it holds, and `at_end` says whether the input has ended
-abbrev pub Says : Result (Option (Vec ℕ)) InputFault → Bool → List ℕ → Type 0
-Says (Ok (Some line)) at_end held = IsLine line.items
+abbrev pub says_of : {L : Type 0} → (L → List ℕ) → Result (Option L) InputFault → Bool → List ℕ → Type 0
+says_of bytes_of (Ok (Some line)) at_end held = IsLine (bytes_of line)
 -- the input has ended, and all its bytes were handed out
-Says (Ok None) at_end held = (at_end ≡ true) × (held ≡ [])
+says_of bytes_of (Ok None) at_end held = (at_end ≡ true) × (held ≡ [])
 -- the bytes that the reader holds may be the beginning of a line
-Says (Err Read) at_end held = IsLine held
-Says (Err BadLine) at_end held = BeginsBadly at_end held
-Says (Err NoMemory) at_end held = ⊤
+says_of bytes_of (Err Read) at_end held = IsLine held
+says_of bytes_of (Err BadLine) at_end held = BeginsBadly at_end held
+says_of bytes_of (Err NoMemory) at_end held = ⊤
+
+-- the bytes that an answer of the reader returns: a line with its line feed, or none
+abbrev pub given : Result (Option (Vec ℕ)) InputFault → List ℕ
+given result = given_of (λ line. line.items) result
+
+-- the state of the reader after an answer that returns a line
+abbrev pub Says : Result (Option (Vec ℕ)) InputFault → Bool → List ℕ → Type 0
+Says result at_end held = says_of (λ line. line.items) result at_end held
+
+-- the bytes that an answer of the reader lends: a line with its line feed, or none
+abbrev pub lent : Result (Option (Bor (List ℕ))) InputFault → List ℕ
+lent result = given_of (λ line. line.now) result
+
+-- the state of the reader after the loan of a line
+abbrev pub SaysLent : Result (Option (Bor (List ℕ))) InputFault → Bool → List ℕ → Type 0
+SaysLent result at_end held = says_of (λ line. line.now) result at_end held
 
 -- the number of failed reads of the source: 1 for `Read`, and 0 for other faults
 abbrev pub failed_reads : InputFault → ℕ

@@ -3,9 +3,9 @@ ghost use Rattle.std.specs.Prelude.{◌≡◌, ◌≢◌, ◌==◌, ℕ, suc, �
 ghost use Rattle.std.specs.Prelude.{drop, ◌<◌, vec_len, IfOk, IfSome, IfNone, IfErr, IsTrue, MatchResult};
 ghost use Rattle.std.specs.Io.KnownBytes.{IsAtEnd};
 ghost use Rattle.bidi_lines.specs.Devices.{ReadsOn, TellsEnd};
-ghost use Rattle.bidi_lines.specs.Feeds.{has_feed};
+ghost use Rattle.bidi_lines.specs.Feeds.{ended, has_feed};
 ghost use Rattle.bidi_lines.specs.declared.line_reader.InputFault.TheVariants.{BadLine};
-ghost use Rattle.bidi_lines.specs.InputLines.{BeginsBadly, Says, failed_reads, given, longest_line};
+ghost use Rattle.bidi_lines.specs.InputLines.{BeginsBadly, IsLine, Says, SaysLent, failed_reads, given, lent, longest_line, says_of};
 ghost use Rattle.bidi_lines.specs.Skipping.{SkipsLine, skips};
 
 use super::device::Source;
@@ -67,6 +67,10 @@ impl Model for LineReader {
 }
 
 impl LineReader {
+    ghost use Rattle.std.specs.Borrow.{sem};
+    ghost use Rattle.std.specs.Io.BufRead.{Rests};
+    ghost use Rattle.bidi_lines.specs.contracts.line_reader.LineReader.{the_row};
+
     /// Makes a reader that has read nothing. Takes no memory.
     pub fn new(alloc: Global) -> LineReader
         // The reader holds no bytes.
@@ -102,31 +106,40 @@ impl LineReader {
         ensures failures { MatchResult result (λ _. S.failures source.new ≡ S.failures source.old)
             (λ fault. S.failures source.new ≡ S.failures source.old + failed_reads fault) }
     {
-        let mut seen = 0;
-        'reads: loop {
-            let held = self.held();
-            if let Some(end) = feed_behind(held, seen) {
-                if end > LONGEST_LINE {
-                    return Err(InputFault::BadLine);
-                }
-                let Ok(line) = Vec::from_slice(alloc, &held[..end]) else {
-                    return Err(InputFault::NoMemory);
-                };
-                self.give(end + 1);
-                return Ok(Some(line));
-            }
-            seen = held.len();
-            if seen > LONGEST_LINE {
-                return Err(InputFault::BadLine);
-            }
-            if self.read_more(source)? == 0 {
-                return if seen == 0 {
-                    Ok(None)
-                } else {
-                    Err(InputFault::BadLine)
-                };
-            }
-        }
+        let Some(long) = self.find(source)? else {
+            return Ok(None);
+        };
+        let Ok(line) = Vec::from_slice(alloc, &self.held()[..long]) else {
+            return Err(InputFault::NoMemory);
+        };
+        self.give(long + 1);
+        Ok(Some(line))
+    }
+
+    /// Lends the next line, without its line feed, or `None` at the end of the input. The line is not copied.
+    ///
+    /// # Errors
+    /// The first of these in the order of the input:
+    /// 1. `Read`: a read of the source failed. The next call goes on with what was read.
+    /// 2. `BadLine`: the next 2,097,153 bytes have no line feed, or the input ends with bytes that have none.
+    /// 3. `NoMemory`: an allocation failed. No byte is lost.
+    pub fn lend_next<S: Source>(&mut self, source: &mut S) -> Result<Option<&[u8]>, InputFault>
+        // A line that is lent has no line feed and at most 2,097,152 bytes.
+        ensures line { IfOk result (λ found. IfSome found (λ line. IsLine line.now)) }
+        // After the loan no byte is lost: the bytes held and read are those of the lent line and
+        // those held then. And the answer is right: a fault has its cause.
+        ensures* rests { sem 𝓛 (Rests the_row self.entry (λ held. ReadsOn (S.left source.old) (S.left source.new) self.old (lent result ++ held)
+            × SaysLent result (S.has_ended source.new) held)) }
+        // `None` comes only if no byte of the source is left.
+        ensures end { IfOk result (λ found. IfNone found (IsAtEnd (S.left source.new))) }
+        // The source failed once if the fault is `Read`, and not at all otherwise.
+        ensures failures { MatchResult result (λ _. S.failures source.new ≡ S.failures source.old)
+            (λ fault. S.failures source.new ≡ S.failures source.old + failed_reads fault) }
+    {
+        let Some(long) = self.find(source)? else {
+            return Ok(None);
+        };
+        Ok(Some(self.hand_out(long)))
     }
 
     /// Skips the line that [`LineReader::next`] answered with `BadLine`.
@@ -211,6 +224,52 @@ impl LineReader {
         ensures { result.now ≡ self.now }
     {
         &self.buffer[self.start..]
+    }
+
+    // Reads on until the next line is held, and returns its length without its line feed, or `None`
+    // at the end of the input.
+    fn find<S: Source>(&mut self, source: &mut S) -> Result<Option<usize>, InputFault>
+        ensures bytes { ReadsOn (S.left source.old) (S.left source.new) self.old self.new }
+        ensures says { says_of (λ long. take long self.new) result (S.has_ended source.new) self.new }
+        ensures front { IfOk result (λ found. IfSome found (λ long. self.new ≡ ended (take long self.new) ++ drop (long + 1) self.new)) }
+        ensures within { IfOk result (λ found. IfSome found (λ long. long + 1 ≤ length self.new)) }
+        ensures end { IfOk result (λ found. IfNone found (IsAtEnd (S.left source.new))) }
+        ensures failures { MatchResult result (λ _. S.failures source.new ≡ S.failures source.old)
+            (λ fault. S.failures source.new ≡ S.failures source.old + failed_reads fault) }
+    {
+        let mut seen = 0;
+        'reads: loop {
+            let held = self.held();
+            if let Some(end) = feed_behind(held, seen) {
+                return if end > LONGEST_LINE {
+                    Err(InputFault::BadLine)
+                } else {
+                    Ok(Some(end))
+                };
+            }
+            seen = held.len();
+            if seen > LONGEST_LINE {
+                return Err(InputFault::BadLine);
+            }
+            if self.read_more(source)? == 0 {
+                return if seen == 0 {
+                    Ok(None)
+                } else {
+                    Err(InputFault::BadLine)
+                };
+            }
+        }
+    }
+
+    // Lends the line of this length at the front, and counts it and its line feed as handed out.
+    fn hand_out(&mut self, long: usize) -> &[u8]
+        requires { long < length self.old }
+        ensures line { result.now ≡ take long self.old }
+        ensures* rest { sem 𝓛 (Rests the_row self.entry (λ held. held ≡ drop (long + 1) self.old)) }
+    {
+        let begin = self.start;
+        self.start += long + 1;
+        &self.buffer[begin..begin + long]
     }
 
     // Counts so many of the held bytes as handed out.

@@ -1,8 +1,8 @@
-use Rattle.std.proofs.Common.{List, ℕ, length, ap, sym, ◌∙◌, subst, arith}
+use Rattle.std.proofs.Common.{List, ℕ, length, take, ap, sym, ◌∙◌, subst, arith}
 use Rattle.bidi_lines.specs.Feeds.{has_feed}
 use Rattle.bidi_lines.specs.InputLines.{BeginsBadly}
 use Rattle.bidi_lines.proofs.InputLineLemmas.{feed_too_late, no_feed_at_end, no_more, says_fault, too_long}
-use Rattle.bidi_lines.proofs.line_reader.LineReader.next.Goals as goal
+use Rattle.bidi_lines.proofs.line_reader.LineReader.find.Goals as goal
 
 pub returns-then-end-gt-LONGEST_LINE-clause-says : goal.returns-then-end-gt-LONGEST_LINE-clause-says
 returns-then-end-gt-LONGEST_LINE-clause-says g c =
@@ -19,7 +19,7 @@ returns-in_err-read_more-clause-says g c =
     let e = c.in_err-read_more.ensures.err in
     let held = e.1 ∙ sym c.held-held.ensures in
     let same = ap length held in
-    says_fault c.from_residual.result c.in_err-read_more.field-0.0 _ _ c.from_residual.ensures e.0
+    says_fault (λ (long : ℕ). take long c.read_more.new.self) c.from_residual.result c.in_err-read_more.field-0.0 _ _ c.from_residual.ensures e.0
     (ap has_feed held ∙ c.in_default.ensures.none) (omega (arith, same))
 
 pub returns-else-seen-eq0-clause-says : goal.returns-else-seen-eq0-clause-says
