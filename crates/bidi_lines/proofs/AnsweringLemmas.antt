@@ -4,13 +4,12 @@ use Rattle.std.proofs.Common.{take-append-drop, append_assoc, arith, refl, sym, 
 use Rattle.std.proofs.Math.Nat.{lt_of_not-le}
 use Rattle.std.proofs.lemmas.Bool.{false_from_ne_true}
 use Rattle.std.proofs.lemmas.List.{length-take}
-use Rattle.std.specs.Prelude.{◌⊎◌, Option, Result}
-use Rattle.std.specs.Global.{Vec}
+use Rattle.std.specs.Prelude.{◌⊎◌}
 use Rattle.std.specs.List.{AllByRecursion}
 use Rattle.std.proofs.lemmas.Grind.{flat_map-append}
 use lib.Seq.{take-append_seam}
 use Rattle.bidi_lines.specs.Feeds.{ended, has_feed}
-use Rattle.bidi_lines.specs.InputLines.{IsLine, BeginsBadly, HasLine, Says, joined}
+use Rattle.bidi_lines.specs.InputLines.{IsLine, BeginsBadly, HasLine, SaysLent, joined}
 use Rattle.bidi_lines.specs.Answering.{AnswersOf, LineIs, answer_fault_of, lines_fault_of, run_of}
 use Rattle.bidi_lines.specs.Stops.{BeginsWith, IsCutOff, StopsAt}
 use Rattle.bidi_lines.specs.declared.answering.LinesFault.{LinesFault}
@@ -112,7 +111,7 @@ cut_off n text some =
 -- a fault of the input stops the answers at the next line
 stops_next : {T : Type 0} (a : AnswersOf T) (first t : T) (most : ℕ) (f : InputFault) (at_end : Bool) (read rest text : List ℕ) (lines : List (List ℕ))
     → BeginsWith IsLine read lines rest → a.has_answered first t lines text → length lines ≤ most
-    → (let r : Result (Option (Vec ℕ)) InputFault = Err f in Says r at_end rest)
+    → SaysLent (Err f) at_end rest
     → StopsAt (run_of a first most) (lines_fault_of f (length lines + 1)) at_end read text
 stops_next a first t most fault.Read at_end read rest text lines b done few says = (lines, rest, b, (t, done), few, says)
 stops_next a first t most fault.BadLine at_end read rest text lines b done few says =
@@ -122,7 +121,7 @@ stops_next a first t most fault.NoMemory at_end read rest text lines b done few 
 pub input_stop : {T : Type 0} (a : AnswersOf T) (first t : T) (most count : ℕ) (f : InputFault) (shown : LinesFault) (at_end : Bool)
     (read rest text : List ℕ) (lines : List (List ℕ))
     → shown ≡ lines_fault_of f (count + 1) → count ≡ length lines → BeginsWith IsLine read lines rest → a.has_answered first t lines text
-    → length lines ≤ most → (let r : Result (Option (Vec ℕ)) InputFault = Err f in Says r at_end rest)
+    → length lines ≤ most → SaysLent (Err f) at_end rest
     → StopsAt (run_of a first most) shown at_end read text
 input_stop a first t most count f shown at_end read rest text lines is counted b done few says =
     let same : lines_fault_of f (length lines + 1) ≡ shown = ap (λ (n : ℕ). lines_fault_of f (n + 1)) (sym counted) ∙ sym is in

@@ -2,13 +2,13 @@
 use Rattle.std.proofs.Common.{◌≡◌, ◌≢◌, ℕ, ◌+◌, ◌<◌, ◌≤◌, Bool, true, false, List, [], ◌++◌, length, take}
 use Rattle.std.proofs.Common.{take_all, length-append, append-nil, sym, ◌∙◌, ap, arith, inl, inr, subst, Ok, Err, Some, None}
 use Rattle.std.specs.Prelude.{Option, Result, IsErr, IsErrAnd}
-use Rattle.std.specs.Global.{Vec}
+use Rattle.std.specs.Borrow.{Bor}
 use Rattle.std.specs.Io.KnownBytes.{Consumes}
 use Rattle.bidi_lines.specs.Devices.{ReadsOn}
 use Rattle.bidi_lines.specs.Feeds.{has_feed, ended}
 use Rattle.bidi_lines.specs.declared.line_reader.InputFault.{InputFault}
 use Rattle.bidi_lines.specs.declared.line_reader.InputFault.TheVariants.{Read, BadLine, NoMemory}
-use Rattle.bidi_lines.specs.InputLines.{IsLine, BeginsBadly, Says, given, says_of}
+use Rattle.bidi_lines.specs.InputLines.{IsLine, BeginsBadly, SaysLent, lent, says_of}
 use Rattle.bidi_lines.proofs.FeedLemmas.{no_feed_front}
 use Rattle.bidi_lines.proofs.ResultLemmas.{no_truth}
 
@@ -41,18 +41,26 @@ says_fault bytes_of (Err Read) fault at_end held e good none short = record { on
 says_fault bytes_of (Err BadLine) fault at_end held e good none short = absurd (good (sym e.1))
 says_fault bytes_of (Err NoMemory) fault at_end held e good none short = tt
 
--- the line that an answer gives
-pub given_line : (a b : Option (List ℕ)) (rest rest' : List ℕ) (at_end : Bool) (found : Option (Vec ℕ)) (line : Vec ℕ) → found ≡ Some line
-    → (let r : Result (Option (Vec ℕ)) InputFault = Ok found in ReadsOn a b rest (given r ++ rest') × Says r at_end rest')
-    → (bytes : List ℕ) × (ended line.items ++ rest' ≡ rest ++ bytes) × Consumes a b bytes × IsLine line.items
-given_line a b rest rest' at_end None line e (read, says) = absurd cc
-given_line a b rest rest' at_end (Some v) line e (read, says) =
+-- the line that an answer lends
+pub lent_line : (a b : Option (List ℕ)) (rest rest' : List ℕ) (at_end : Bool) (r : Result (Option (Bor (List ℕ))) InputFault) (found : Option (Bor (List ℕ)))
+    (line : Bor (List ℕ)) → r ≡ Ok found → found ≡ Some line → ReadsOn a b rest (lent r ++ rest') × SaysLent r at_end rest'
+    → (bytes : List ℕ) × (ended line.now ++ rest' ≡ rest ++ bytes) × Consumes a b bytes × IsLine line.now
+lent_line a b rest rest' at_end (Err fault) found line is e (read, says) = absurd cc
+lent_line a b rest rest' at_end (Ok None) found line is e (read, says) = absurd cc
+lent_line a b rest rest' at_end (Ok (Some v)) found line is e (read, says) =
     let same : v ≡ line = cc in
-    subst (λ (w : Vec ℕ). (bytes : List ℕ) × (ended w.items ++ rest' ≡ rest ++ bytes) × Consumes a b bytes × IsLine w.items) same (read.0, read.1, read.2, says)
+    subst (λ (w : Bor (List ℕ)). (bytes : List ℕ) × (ended w.now ++ rest' ≡ rest ++ bytes) × Consumes a b bytes × IsLine w.now) same (read.0, read.1, read.2, says)
 
 -- nothing is left at the end of the input
-pub given_none : (a b : Option (List ℕ)) (rest rest' : List ℕ) (at_end : Bool) (found : Option (Vec ℕ)) → found ≡ None
-    → (let r : Result (Option (Vec ℕ)) InputFault = Ok found in ReadsOn a b rest (given r ++ rest') × Says r at_end rest')
+pub lent_none : (a b : Option (List ℕ)) (rest rest' : List ℕ) (at_end : Bool) (r : Result (Option (Bor (List ℕ))) InputFault) (found : Option (Bor (List ℕ)))
+    → r ≡ Ok found → found ≡ None → ReadsOn a b rest (lent r ++ rest') × SaysLent r at_end rest'
     → (bytes : List ℕ) × (rest' ≡ rest ++ bytes) × Consumes a b bytes × (rest' ≡ [])
-given_none a b rest rest' at_end None e (read, says) = (read.0, read.1, read.2, says.1)
-given_none a b rest rest' at_end (Some v) e (read, says) = absurd cc
+lent_none a b rest rest' at_end (Err fault) found is e (read, says) = absurd cc
+lent_none a b rest rest' at_end (Ok None) found is e (read, says) = (read.0, read.1, read.2, says.1)
+lent_none a b rest rest' at_end (Ok (Some v)) found is e (read, says) = absurd cc
+
+-- a fault lends nothing, and says what is held
+pub lent_fault : (a b : Option (List ℕ)) (rest rest' : List ℕ) (at_end : Bool) (r : Result (Option (Bor (List ℕ))) InputFault) (fault : InputFault)
+    → r ≡ Err fault → ReadsOn a b rest (lent r ++ rest') × SaysLent r at_end rest' → ReadsOn a b rest rest' × SaysLent (Err fault) at_end rest'
+lent_fault a b rest rest' at_end r fault is h =
+    subst (λ (q : Result (Option (Bor (List ℕ))) InputFault). ReadsOn a b rest (lent q ++ rest') × SaysLent q at_end rest') is h

@@ -155,12 +155,12 @@ pub fn answer_lines<R: Source, W: Sink, A: Answerer>(
     let mut reader = LineReader::new(alloc);
     let mut count: u64 = 0;
     'lines: while count < most {
-        match reader.next(alloc, source) {
+        match reader.lend_next(source) {
             Err(fault) => return Err(fault.at_line(count + 1)),
             Ok(None) => return Ok(()),
             Ok(Some(line)) => {
                 count += 1;
-                let Some(text) = answerer.answer(alloc, count, &line)? else {
+                let Some(text) = answerer.answer(alloc, count, line)? else {
                     return Err(LinesFault::BadLine(count));
                 };
                 write_all(sink, &text)?;

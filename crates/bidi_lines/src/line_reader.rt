@@ -126,8 +126,8 @@ impl LineReader {
     pub fn lend_next<S: Source>(&mut self, source: &mut S) -> Result<Option<&[u8]>, InputFault>
         // A line that is lent has no line feed and at most 2,097,152 bytes.
         ensures line { IfOk result (λ found. IfSome found (λ line. IsLine line.now)) }
-        // After the loan no byte is lost: the bytes held and read are those of the lent line and
-        // those held then. And the answer is right: a fault has its cause.
+        // After the loan, the bytes held and read are those of the lent line and those held then,
+        // and the answer is right: a fault has its cause.
         ensures* rests { sem 𝓛 (Rests the_row self.entry (λ held. ReadsOn (S.left source.old) (S.left source.new) self.old (lent result ++ held)
             × SaysLent result (S.has_ended source.new) held)) }
         // `None` comes only if no byte of the source is left.

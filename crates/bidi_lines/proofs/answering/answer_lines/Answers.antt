@@ -4,7 +4,7 @@ use Rattle.bidi_lines.specs.Feeds.{ended}
 use Rattle.bidi_lines.specs.Answering.{answer_fault_of}
 use Rattle.bidi_lines.specs.declared.answering.LinesFault.TheVariants.{Write}
 use Rattle.bidi_lines.proofs.AnsweringLemmas.{answer_stop, answered_now, begins_all, begins_more, begins_read, input_stop, last_stop, line_stop, write_stop}
-use Rattle.bidi_lines.proofs.InputLineLemmas.{given_line, given_none}
+use Rattle.bidi_lines.proofs.InputLineLemmas.{lent_fault, lent_line, lent_none}
 use Rattle.bidi_lines.proofs.ResultLemmas.{by_fault, match_none, match_some}
 use Rattle.bidi_lines.proofs.answering.answer_lines.Goals as goal
 
@@ -28,30 +28,30 @@ lines-init g c = (
 pub returns-in-Err-clause-err : goal.returns-in-Err-clause-err
 returns-in-Err-clause-err g c =
     let (read, lines, text, s) = c.lines.invariant in
-    let next = c.in-Err.ensures in
-    let (bytes, more, consumes) = next.bytes in (
+    let rest = c.lend_next.follows.lender-at-none in
+    let ((bytes, more, consumes), says) = lent_fault _ _ c.lines.reader rest _ c.lend_next.result c.in-Err.fault c.in-Err.is c.lend_next.follows.holds-at-none in (
       read ++ bytes,
       text,
       Consumes-trans _ _ _ _ _ s.reads consumes,
       s.writes,
       input_stop g.A.Answerer.answers c.args.answerer.now c.lines.answerer c.args.most c.lines.count c.in-Err.fault c.at_line.result
-          (g.R.Source.has_ended c.next.new.source) (read ++ bytes) c.next.new.self text lines c.at_line.ensures s.count
-          (begins_read read bytes c.lines.reader c.next.new.self lines s.begins more) s.answered s.few next.says,
+          (g.R.Source.has_ended c.lend_next.new.source) (read ++ bytes) rest text lines c.at_line.ensures s.count
+          (begins_read read bytes c.lines.reader rest lines s.begins more) s.answered s.few says,
     )
 
 pub returns-in-Ok-None-clause-ok : goal.returns-in-Ok-None-clause-ok
 returns-in-Ok-None-clause-ok g c =
     let (read, lines, text, s) = c.lines.invariant in
-    let next = c.in-Ok-None.ensures in
+    let rest = c.lend_next.follows.lender-at-none in
     let (bytes, more, consumes, none) =
-    given_none _ _ c.lines.reader c.next.new.self _ c.in-Ok-None.field-0 c.in-Ok-None.field-0-is (next.bytes, next.says) in (
+    lent_none _ _ c.lines.reader rest _ c.lend_next.result c.in-Ok-None.field-0 c.in-Ok-None.is c.in-Ok-None.field-0-is c.lend_next.follows.holds-at-none in (
       read ++ bytes,
       text,
       Consumes-trans _ _ _ _ _ s.reads consumes,
       s.writes,
       (
         lines,
-        begins_all (read ++ bytes) c.next.new.self lines (begins_read read bytes c.lines.reader c.next.new.self lines s.begins more) none,
+        begins_all (read ++ bytes) rest lines (begins_read read bytes c.lines.reader rest lines s.begins more) none,
         s.answered,
         s.few,
       ),
@@ -60,10 +60,10 @@ returns-in-Ok-None-clause-ok g c =
 pub returns-in_err-text-in-Ok-Some-clause-err : goal.returns-in_err-text-in-Ok-Some-clause-err
 returns-in_err-text-in-Ok-Some-clause-err g c =
     let (read, lines, text, s) = c.lines.invariant in
-    let next = c.in-Ok-Some.ensures in
+    let rest = c.lend_next.follows.lender-at-none in
     let line = c.in-Ok-Some.line in
     let (bytes, more, consumes, is) =
-    given_line _ _ c.lines.reader c.next.new.self _ c.in-Ok-Some.field-0 line c.in-Ok-Some.field-0-is (next.bytes, next.says) in
+    lent_line _ _ c.lines.reader rest _ c.lend_next.result c.in-Ok-Some.field-0 line c.in-Ok-Some.is c.in-Ok-Some.field-0-is c.lend_next.follows.holds-at-none in
     let e = c.in_err-text-in-Ok-Some.field-0.0 in
     let counted = s.count in
     by_fault c.from_residual.result (answer_fault_of e) _ c.from_residual.ensures (
@@ -71,79 +71,79 @@ returns-in_err-text-in-Ok-Some-clause-err g c =
       text,
       Consumes-trans _ _ _ _ _ s.reads consumes,
       s.writes,
-      answer_stop g.A.Answerer.answers c.args.answerer.now c.lines.answerer c.args.most e (g.R.Source.has_ended c.next.new.source) (read ++ bytes) line.items
-          c.deref.result.now c.next.new.self text lines
-          (begins_read read bytes c.lines.reader (ended line.items ++ c.next.new.self) lines s.begins more) s.answered is
-          c.deref.ensures.value (omega (arith, counted))
+      answer_stop g.A.Answerer.answers c.args.answerer.now c.lines.answerer c.args.most e (g.R.Source.has_ended c.lend_next.new.source) (read ++ bytes) line.now
+          line.now rest text lines
+          (begins_read read bytes c.lines.reader (ended line.now ++ rest) lines s.begins more) s.answered is
+          refl (omega (arith, counted))
           (λ worn. c.in_err-text-in-Ok-Some.ensures.worn_out c.args.answerer.now lines text s.answered (ap Err worn)),
     )
 
 pub returns-in_default-clause-err : goal.returns-in_default-clause-err
 returns-in_default-clause-err g c =
     let (read, lines, text, s) = c.lines.invariant in
-    let next = c.in-Ok-Some.ensures in
+    let rest = c.lend_next.follows.lender-at-none in
     let line = c.in-Ok-Some.line in
     let (bytes, more, consumes, is) =
-    given_line _ _ c.lines.reader c.next.new.self _ c.in-Ok-Some.field-0 line c.in-Ok-Some.field-0-is (next.bytes, next.says) in
+    lent_line _ _ c.lines.reader rest _ c.lend_next.result c.in-Ok-Some.field-0 line c.in-Ok-Some.is c.in-Ok-Some.field-0-is c.lend_next.follows.holds-at-none in
     let refused = match_none c.in_ok-text-in-Ok-Some.field-0 _ _ (c.in_ok-text-in-Ok-Some.ensures.ok c.args.answerer.now lines text s.answered (ap (λ (n : ℕ). n + 1) s.count)) c.in_default.is in (
       read ++ bytes,
       text,
       Consumes-trans _ _ _ _ _ s.reads consumes,
       s.writes,
-      line_stop g.A.Answerer.answers c.args.answerer.now c.lines.answerer c.args.most c.lines.count (g.R.Source.has_ended c.next.new.source) (read ++ bytes)
-          line.items c.deref.result.now c.next.new.self text lines
-          (begins_read read bytes c.lines.reader (ended line.items ++ c.next.new.self) lines s.begins more) s.answered is
-          c.deref.ensures.value refused s.count s.few,
+      line_stop g.A.Answerer.answers c.args.answerer.now c.lines.answerer c.args.most c.lines.count (g.R.Source.has_ended c.lend_next.new.source) (read ++ bytes)
+          line.now line.now rest text lines
+          (begins_read read bytes c.lines.reader (ended line.now ++ rest) lines s.begins more) s.answered is
+          refl refused s.count s.few,
     )
 
 pub returns-in_err-write_all-in-Ok-Some-clause-err : goal.returns-in_err-write_all-in-Ok-Some-clause-err
 returns-in_err-write_all-in-Ok-Some-clause-err g c =
     let (read, lines, text, s) = c.lines.invariant in
-    let next = c.in-Ok-Some.ensures in
+    let rest = c.lend_next.follows.lender-at-none in
     let line = c.in-Ok-Some.line in
     let (bytes, more, consumes, is) =
-    given_line _ _ c.lines.reader c.next.new.self _ c.in-Ok-Some.field-0 line c.in-Ok-Some.field-0-is (next.bytes, next.says) in
+    lent_line _ _ c.lines.reader rest _ c.lend_next.result c.in-Ok-Some.field-0 line c.in-Ok-Some.is c.in-Ok-Some.field-0-is c.lend_next.follows.holds-at-none in
     let answer = c.in-Some.text in
     let now =
-    answered_now (g.A.Answerer.answers.has_answered c.args.answerer.now c.answer.new.self) lines line.items c.deref.result.now text answer.items c.deref-in-Ok-Some.result.now
-    c.deref.ensures.value c.deref-in-Ok-Some.ensures.value
+    answered_now (g.A.Answerer.answers.has_answered c.args.answerer.now c.answer.new.self) lines line.now line.now text answer.items c.deref.result.now
+    refl c.deref.ensures.value
     (match_some c.in_ok-text-in-Ok-Some.field-0 answer _ _ (c.in_ok-text-in-Ok-Some.ensures.ok c.args.answerer.now lines text s.answered (ap (λ (n : ℕ). n + 1) s.count)) c.in-Some.is) in
     let front = c.in_err-write_all-in-Ok-Some.ensures.err in
     let before = s.count in
     by_fault c.from_residual-in_err-write_all-in-Ok-Some.result Write _ c.from_residual-in_err-write_all-in-Ok-Some.ensures (
       read ++ bytes,
-      text ++ take front.0 c.deref-in-Ok-Some.result.now,
+      text ++ take front.0 c.deref.result.now,
       Consumes-trans _ _ _ _ _ s.reads consumes,
       Appends-trans _ _ _ _ _ s.writes front.2,
-      write_stop g.A.Answerer.answers c.args.answerer.now c.lines.answerer c.answer.new.self c.args.most front.0 (g.R.Source.has_ended c.next.new.source)
-          (read ++ bytes) line.items c.next.new.self text c.deref-in-Ok-Some.result.now lines
-          (begins_read read bytes c.lines.reader (ended line.items ++ c.next.new.self) lines s.begins more) s.answered is now
+      write_stop g.A.Answerer.answers c.args.answerer.now c.lines.answerer c.answer.new.self c.args.most front.0 (g.R.Source.has_ended c.lend_next.new.source)
+          (read ++ bytes) line.now rest text c.deref.result.now lines
+          (begins_read read bytes c.lines.reader (ended line.now ++ rest) lines s.begins more) s.answered is now
           (omega (arith, before)) front.1,
     )
 
 pub lines-preserved : goal.lines-preserved
 lines-preserved g c =
     let (read, lines, text, s) = c.lines.invariant in
-    let next = c.in-Ok-Some.ensures in
+    let rest = c.lend_next.follows.lender-at-none in
     let line = c.in-Ok-Some.line in
     let (bytes, more, consumes, is) =
-    given_line _ _ c.lines.reader c.next.new.self _ c.in-Ok-Some.field-0 line c.in-Ok-Some.field-0-is (next.bytes, next.says) in
+    lent_line _ _ c.lines.reader rest _ c.lend_next.result c.in-Ok-Some.field-0 line c.in-Ok-Some.is c.in-Ok-Some.field-0-is c.lend_next.follows.holds-at-none in
     let answer = c.in-Some.text in
     let now =
-    answered_now (g.A.Answerer.answers.has_answered c.args.answerer.now c.answer.new.self) lines line.items c.deref.result.now text answer.items c.deref-in-Ok-Some.result.now
-    c.deref.ensures.value c.deref-in-Ok-Some.ensures.value
+    answered_now (g.A.Answerer.answers.has_answered c.args.answerer.now c.answer.new.self) lines line.now line.now text answer.items c.deref.result.now
+    refl c.deref.ensures.value
     (match_some c.in_ok-text-in-Ok-Some.field-0 answer _ _ (c.in_ok-text-in-Ok-Some.ensures.ok c.args.answerer.now lines text s.answered (ap (λ (n : ℕ). n + 1) s.count)) c.in-Some.is) in
-    let long = length-append lines (line.items ∷ []) in
+    let long = length-append lines (line.now ∷ []) in
     let before = s.count in (
       read ++ bytes,
-      lines ++ line.items ∷ [],
-      text ++ c.deref-in-Ok-Some.result.now,
+      lines ++ line.now ∷ [],
+      text ++ c.deref.result.now,
       record {
-        begins = begins_more read bytes line.items c.lines.reader c.next.new.self lines s.begins more is;
+        begins = begins_more read bytes line.now c.lines.reader rest lines s.begins more is;
         answered = now;
         reads = Consumes-trans _ _ _ _ _ s.reads consumes;
         writes = Appends-trans _ _ _ _ _ s.writes c.in_ok-write_all-in-Ok-Some.ensures.ok;
-        failed_reads = next.failures ∙ s.failed_reads;
+        failed_reads = c.in-Ok-Some.ensures.failures ∙ s.failed_reads;
         failed_writes = c.in_ok-write_all-in-Ok-Some.ensures.counts ∙ s.failed_writes;
         count = omega (arith, long, before);
         few = omega (arith, long, before);
