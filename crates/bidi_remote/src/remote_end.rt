@@ -132,6 +132,41 @@ impl RemoteEnd {
         Ok(sent)
     }
 
+    /// Takes a text message that came in on a connection, and returns what is sent, in order. The text is lent.
+    ///
+    /// It is as [`RemoteEnd::step`] with a `Step::Text` of this connection and this text, which would own the text.
+    ///
+    /// # Errors
+    /// The remote end is then as it was.
+    /// 1. `NoMemory`: an allocation failed.
+    /// 2. `WornOut`: 1,000,000,000 steps were accepted.
+    ///
+    /// After WebDriver BiDi, "Transport".
+    pub fn hear(&mut self, conn: JsUint, text: &str) -> Result<Vec<Sent>, RemoteFault>
+        // The text is one input. After each history that the end stands for, it answers as the machine does.
+        ensures ok { IfOk result (λ sent. (i : Input) × IsHeardAs (steps.Text conn.value text.now) i
+            × ((h : List Input) → StandsFor self.old h
+            → (map sent_of sent.items ≡ out h i) × StandsFor self.new (i ∷ h))) }
+        // Each text that is sent is the text of a message, and reads back as that message.
+        ensures reads_back { (h : List Input) → StandsFor self.old h → IfOk result (λ sent. AllReadBack (map sent_of sent.items)) }
+        // A command that does something gets one reply, with a result that fits the rule of its method.
+        ensures answered { (h : List Input) (i : Input) → StandsFor self.old h → IsHeardAs (steps.Text conn.value text.now) i
+            → OnOk result (IsAnsweredOnce (deeds h) i) }
+        // After an error, the end stands for the histories that it stood for before.
+        ensures err { OnErr result ((h : List Input) → StandsFor self.old h → StandsFor self.new h) }
+        // `WornOut` comes exactly if the end has accepted `most_steps` steps.
+        ensures worn_out { (h : List Input) → StandsFor self.old h → IsErrOf result RemoteFault.WornOut ↔ (most_steps ≤ length h) }
+    {
+        if self.count >= MOST_STEPS {
+            return Err(RemoteFault::WornOut);
+        }
+        let sent = self
+            .state
+            .take_text(self.alloc, conn, text, self.scratch.as_mut())?;
+        self.count += 1;
+        Ok(sent)
+    }
+
     /// Whether a step is struck for a session: it is an idle text of another session, one that is refused or
     /// that only asks or subscribes. Such a step changes nothing for this session, so it need not be taken.
     ///

@@ -14,6 +14,7 @@ use crate::state::State;
 use crate::telling::tell;
 use crate::turn::{Change, Turn};
 use bidi_sessions::{Sent, Step, distinct};
+use bidi_tree::JsUint;
 use json::Scratch;
 use std::alloc::{AllocError, Global};
 
@@ -50,6 +51,23 @@ impl State {
             Step::NotText(conn) => self.hear_no_text(alloc, conn),
             Step::Page(page) => self.take_page(alloc, page),
         }
+    }
+
+    /// Takes a text message, and returns what is sent.
+    pub(crate) fn take_text(
+        &mut self,
+        alloc: Global,
+        conn: JsUint,
+        text: &str,
+        scratch: &mut Scratch,
+    ) -> Result<Vec<Sent>, AllocError>
+        ensures ok { IfOk result (λ sent. (i : Input) × IsHeardAs (steps.Text conn.value text.now) i
+            × ((h : List Input) → IsShort h → AgreeWith self.old (deeds h) → Takes self.new (map sent_of sent.items) h i)) }
+        ensures err { OnErr result (Keeps self.old self.new) }
+        ensures answered { (h : List Input) (i : Input) → IsShort h → AgreeWith self.old (deeds h)
+            → IsHeardAs (steps.Text conn.value text.now) i → OnOk result (IsAnsweredOnce (deeds h) i) }
+    {
+        self.hear(alloc, conn, text, scratch)
     }
 
     /// Takes a turn that was decided: makes the texts, makes room for the change, and puts it in place.
