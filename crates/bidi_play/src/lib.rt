@@ -17,6 +17,7 @@
 //!
 //! # Parts
 //! - [`read_step`] reads a line of a play as a step, and [`read_step_text`] one that is known to be UTF-8.
+//! - [`heard_text`] reads a line `> C TEXT`, and lends its text.
 //! - [`read_number`], [`split_at_space`] and [`is_same_text`] help to read lines that are like those of a
 //!   play.
 //!
@@ -34,5 +35,5 @@
 mod lines;
 mod playing;
 
-pub use lines::{is_same_text, lines_of, read_number, read_step, read_step_text, split_at_space};
+pub use lines::{heard_text, is_same_text, lines_of, read_number, read_step, read_step_text, split_at_space};
 pub use playing::{PlayFault, play};

@@ -41,6 +41,47 @@ pub fn read_step(alloc: Global, line: &[u8]) -> Result<Option<Step>, AllocError>
     }
 }
 
+/// Reads a line `> C TEXT` of a play as a connection and the text that came in on it; `None` if it is not such a
+/// line. The text is lent. Takes no memory.
+pub fn heard_text(line: &[u8]) -> Option<(JsUint, &str)>
+    // The line is given without its line feed, and has no other.
+    requires { has_feed line.now ≡ false }
+    // If there is a text, a play can have the step of it, and the line is that of the step.
+    ensures some { IfSome result (λ x. CanBeSaid (play.Text x.0.value x.1.now) × (line.now ≡ line_of (play.Text x.0.value x.1.now))) }
+    // `None` comes only if the line is not that of any text.
+    ensures none { IfNone result ((c : ℕ) (text : List ℕ) → CanBeSaid (play.Text c text) → line.now ≡ line_of (play.Text c text) → ⊥) }
+{
+    if line.is_empty() || line[0] != b'>' || line.len() > LONGEST_LINE {
+        return None;
+    }
+    match std::str::from_utf8(line) {
+        Err(_) => None,
+        Ok(text) => heard_in(text),
+    }
+}
+
+// Reads the line of a text, of any length.
+fn heard_in(line: &str) -> Option<(JsUint, &str)>
+    ensures some { IfSome result (λ x. IsSayable (play.Text x.0.value x.1.now) × (line.now ≡ line_of (play.Text x.0.value x.1.now))) }
+    ensures none { IfNone result ((c : ℕ) (text : List ℕ) → IsSayable (play.Text c text) → line.now ≡ line_of (play.Text c text) → ⊥) }
+{
+    let (word, rest) = split_at_space(line)?;
+    if !is_same_text(word, ">") {
+        return None;
+    }
+    number_and_text(rest)
+}
+
+// Reads a number, and lends the text after the first space.
+fn number_and_text(rest: &str) -> Option<(JsUint, &str)>
+    ensures some { IfSome result (λ x. rest.now ≡ decimal x.0.value ++ 32 ∷ x.1.now) }
+    ensures none { IfNone result ((n : ℕ) (text : List ℕ) → n < 2 ^ 53 → rest.now ≡ decimal n ++ 32 ∷ text → ⊥) }
+{
+    let (number, text) = split_at_space(rest)?;
+    let n = read_number(number)?;
+    Some((n, text))
+}
+
 /// Reads a text as a step; `None` if it is not the line of one. The text may have any length.
 ///
 /// # Errors
@@ -99,12 +140,9 @@ fn read_number_and_text(alloc: Global, rest: &str) -> Result<Option<(JsUint, Str
     ensures some { IfOk result (λ found. IfSome found (λ x. rest.now ≡ decimal x.0.value ++ 32 ∷ string_bytes x.1)) }
     ensures none { IfOk result (λ found. IfNone found ((n : ℕ) (text : List ℕ) → n < 2 ^ 53 → rest.now ≡ decimal n ++ 32 ∷ text → ⊥)) }
 {
-    let Some((number, text)) = split_at_space(rest) else {
-        return Ok(None);
-    };
-    match read_number(number) {
+    match number_and_text(rest) {
         None => Ok(None),
-        Some(n) => Ok(Some((n, String::from_str(alloc, text)?))),
+        Some((n, text)) => Ok(Some((n, String::from_str(alloc, text)?))),
     }
 }
 

@@ -1,15 +1,20 @@
 //! Plays: lines of steps in, lines of what is sent out.
-ghost use Rattle.std.specs.Prelude.{◌≡◌, ◌+◌, IfErr, OnOk, IsTrue, MatchResult};
+ghost use Rattle.std.specs.Prelude.{◌≡◌, ◌≤◌, ◌+◌, List, false, map, length, IfOk, IfErr, IsErrOf, OnOk, IsTrue, MatchOption, MatchResult};
 ghost use Rattle.std.specs.Io.KnownBytes.{IsAtEnd};
 ghost use Rattle.bidi_lines.specs.Devices.{Moves};
+ghost use Rattle.bidi_lines.specs.Feeds.{has_feed};
 ghost use Rattle.bidi_lines.specs.Stops.{StopsAt, failed_reads, failed_writes};
 ghost use Rattle.bidi_play.specs.Plays.{PlaysAll, lines_fault, play_fault_of, play_run};
-ghost use Rattle.bidi_play.specs.Players.{player_answers};
+ghost use Rattle.bidi_play.specs.Players.{SaysAStep, SaysNoStep, TakesLine, player_answers};
+ghost use Rattle.bidi_remote.specs.Machine.History.{Input};
+ghost use Rattle.bidi_remote.specs.State.Stands.{StandsFor};
+ghost use Rattle.bidi_sessions.specs.Limits.{most_steps};
+ghost use Rattle.bidi_sessions.specs.View.{sent_of};
 ghost use Rattle.bidi_play.specs.declared.playing.PlayFault.TheVariants.{Write, NoMemory};
 
-use super::lines::{lines_of, read_step};
+use super::lines::{heard_text, lines_of, read_step};
 use bidi_lines::{AnswerFault, Answerer, DeviceFault, LinesFault, Sink, Source, answer_lines};
-use bidi_remote::{RemoteEnd, RemoteFault};
+use bidi_remote::{RemoteEnd, RemoteFault, Sent};
 use std::alloc::{AllocError, Global};
 use thiserror::Error;
 
@@ -120,13 +125,31 @@ impl Answerer for Player {
         _number: u64,
         line: &[u8],
     ) -> Result<Option<Vec<u8>>, AnswerFault> {
-        let Some(step) = read_step(alloc, line)? else {
-            return Ok(None);
-        };
-        match self.end.step(step) {
-            Ok(sent) => Ok(Some(lines_of(alloc, sent)?)),
+        match take_line(alloc, &mut self.end, line) {
+            Ok(None) => Ok(None),
+            Ok(Some(sent)) => Ok(Some(lines_of(alloc, sent)?)),
             Err(RemoteFault::NoMemory) => Err(AnswerFault::NoMemory),
             Err(RemoteFault::WornOut) => Err(AnswerFault::WornOut),
         }
     }
+}
+
+// Takes the step of a line, and returns what is sent; `None` if it is not a play line. The text of a
+// client is not copied.
+fn take_line(
+    alloc: Global,
+    end: &mut RemoteEnd,
+    line: &[u8],
+) -> Result<Option<Vec<Sent>>, RemoteFault>
+    requires { has_feed line.now ≡ false }
+    ensures ok { IfOk result (λ found. MatchOption found (SaysNoStep line.now) (λ sent. TakesLine end.old end.new line.now (map sent_of sent.items))) }
+    ensures worn_out { (h : List Input) → StandsFor end.old h → IsErrOf result RemoteFault.WornOut → SaysAStep line.now × (most_steps ≤ length h) }
+{
+    if let Some((conn, text)) = heard_text(line) {
+        return Ok(Some(end.hear(conn, text)?));
+    }
+    let Some(step) = read_step(alloc, line)? else {
+        return Ok(None);
+    };
+    Ok(Some(end.step(step)?))
 }
