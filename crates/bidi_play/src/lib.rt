@@ -35,5 +35,7 @@
 mod lines;
 mod playing;
 
-pub use lines::{heard_text, is_same_text, lines_of, read_number, read_step, read_step_text, split_at_space};
+pub use lines::{
+    heard_text, is_same_text, lines_of, read_number, read_step, read_step_text, split_at_space,
+};
 pub use playing::{PlayFault, play};
