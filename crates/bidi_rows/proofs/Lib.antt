@@ -2,3 +2,4 @@ pub mod StringLemmas
 pub mod NumberLemmas
 pub mod PartLemmas
 pub mod ReadingLemmas
+pub mod RefusalLemmas

@@ -1,5 +1,5 @@
 -- The parts of a value that was read have numbers that can be written.
-use Rattle.std.proofs.Common.{◌≡◌, ℕ, List, Option, Some, None, refl, sym, ap}
+use Rattle.std.proofs.Common.{◌≡◌, ℕ, List, Option, Some, None, sym, ap}
 use Rattle.std.specs.Prelude.{IfSome, option_map, option_and_then}
 use Rattle.json.specs.Json.{Json, null, boolean, number, string, array, object}
 use Rattle.json.specs.Find.{get}

@@ -1,5 +1,5 @@
 -- Strings that stand in others, and the JSON text of a string.
-use Rattle.std.proofs.Common.{◌≡◌, ℕ, Bool, true, false, ◌||◌, true≢false, List, [], ◌∷◌, ◌++◌, eqb, drop, length, refl, sym, ap, ◌∙◌, ◌↔◌, ◌⊎◌, inl, inr, subst, append-nil}
+use Rattle.std.proofs.Common.{◌≡◌, ℕ, Bool, true, false, ◌||◌, List, [], ◌∷◌, ◌++◌, eqb, drop, length, refl, sym, ap, ◌∙◌, ◌↔◌, ◌⊎◌, inl, inr, subst, append-nil}
 use Rattle.std.specs.List.{starts_with}
 use Rattle.std.specs.Str.Iter.{HasSubslice}
 use Rattle.std.proofs.Math.Bool.{or-true}

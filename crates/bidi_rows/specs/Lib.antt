@@ -7,3 +7,4 @@ pub mod Part
 pub mod View
 pub mod Filling
 pub mod Templates
+pub mod Refusals

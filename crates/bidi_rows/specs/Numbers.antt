@@ -1,5 +1,4 @@
 -- That the numbers of a value can be written is a fact of which there is one proof at most.
-use Rattle.std.specs.Prelude.{List, ℕ}
 use Rattle.std.specs.Coded.{×_prop, Unit-prop, Coded-set, coded_ℕ, coded_list, coded_option}
 use Rattle.json.specs.Json.{Json, null, boolean, number, string, array, object, Items, no_items, item, Members, no_members, member}
 use Rattle.json.specs.Tree.{HasNumbers, ItemsHaveNumbers, MembersHaveNumbers}

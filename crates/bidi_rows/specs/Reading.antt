@@ -141,6 +141,14 @@ pub record IsRow (s : List ℕ) (r : Row) : Type 0 where
   pub does : Does value r.action
   pub bytes : r.bytes ≡ length s
 
+-- The text is JSON for this row, and the row answers.
+abbrev pub IsAnsweringRow : List ℕ → Row → Type 0
+IsAnsweringRow s r = IsRow s r × (answer : Answer) × (r.action ≡ Answers answer)
+
+-- The text is JSON for this row, and the row holds.
+abbrev pub IsHoldingRow : List ℕ → Row → Type 0
+IsHoldingRow s r = IsRow s r × (r.action ≡ Holds)
+
 -- The text is JSON for this answer.
 pub record IsAnswer (s : List ℕ) (a : Answer) : Type 0 where
   pub value : Json

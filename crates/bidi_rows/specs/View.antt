@@ -1,5 +1,5 @@
 -- What contracts see of rows, of commands and of events in the code.
-use Rattle.std.specs.Prelude.{ℕ, List, map, Option, Some, None, option_map, string_bytes}
+use Rattle.std.specs.Prelude.{List, map, option_map, string_bytes}
 use Rattle.json.specs.Value.{value_view}
 use Rattle.bidi_rows.specs.declared.command.Command as declared_command
 use Rattle.bidi_rows.specs.declared.row.Event as declared_event

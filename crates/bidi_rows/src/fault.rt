@@ -1,4 +1,8 @@
 //! Why the text of a row was not read.
+ghost use Rattle.std.specs.Prelude.{◌≡◌};
+ghost use Rattle.bidi_rows.specs.Refusals.{fault_of};
+ghost use Rattle.bidi_rows.specs.declared.fault.RowFault.TheVariants.{NoMemory};
+
 use json::Error as JsonError;
 use std::alloc::{AllocError, AllocFailed};
 use thiserror::Error;
@@ -39,18 +43,24 @@ pub enum RowFault {
 }
 
 impl From<AllocError> for RowFault {
+    ghost from_gives = { λ _ fault. fault ≡ NoMemory };
+
     fn from(_error: AllocError) -> RowFault {
         RowFault::NoMemory
     }
 }
 
 impl<T: Drop> From<AllocFailed<T>> for RowFault {
+    ghost from_gives = { λ _ fault. fault ≡ NoMemory };
+
     fn from(_error: AllocFailed<T>) -> RowFault {
         RowFault::NoMemory
     }
 }
 
 impl From<JsonError> for RowFault {
+    ghost from_gives = { λ error fault. fault ≡ fault_of error };
+
     fn from(error: JsonError) -> RowFault {
         match error {
             JsonError::OutOfMemory => RowFault::NoMemory,

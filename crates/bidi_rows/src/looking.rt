@@ -1,8 +1,8 @@
 //! Looking into JSON values.
 ghost use Rattle.std.specs.Prelude.{◌≡◌, bytes_eq, map, option_map, option_and_then};
 ghost use Rattle.std.specs.List.{list_any};
-ghost use Rattle.json.specs.Value.{value_view, members_view};
-ghost use Rattle.json.specs.Find.{as_number};
+ghost use Rattle.json.specs.Value.{value_view, items_view, members_view};
+ghost use Rattle.json.specs.Find.{as_number, as_array};
 ghost use Rattle.bidi_rows.specs.Command.{js_uint};
 ghost use Rattle.bidi_rows.specs.Reading.{all_among, has_only, string_at, object_at};
 
@@ -59,6 +59,16 @@ pub fn object_at<'v, 'a>(value: &'v Value<'a>, name: &str) -> Option<&'v Value<'
     let found = value.get(name)?;
     match found {
         Value::Object(_) => Some(found),
+        _ => None,
+    }
+}
+
+/// The items of a value, if it is an array.
+pub(crate) fn items_in<'v, 'a>(value: &'v Value<'a>) -> Option<&'v Vec<Value<'a>>>
+    ensures { option_map (λ v. items_view v.now.items) result ≡ as_array (value_view value.now) }
+{
+    match value {
+        Value::Array(items) => Some(items),
         _ => None,
     }
 }

@@ -1,17 +1,19 @@
 //! Reading rows, answers and events.
-ghost use Rattle.std.specs.Prelude.{◌≡◌, ◌≤◌, length, Some, None, IfOk, IfSome, OnOk, codes, option_map, string_bytes, map};
-ghost use Rattle.json.specs.Json.{document};
+ghost use Rattle.std.specs.Prelude.{◌≡◌, ◌≤◌, ◌||◌, ℕ, List, length, Some, None, Option, IfOk, IfSome, OnOk, is_some, codes, option_map, string_bytes, map};
+ghost use Rattle.json.specs.Json.{Json, document};
 ghost use Rattle.json.specs.Find.{get};
 ghost use Rattle.json.specs.Tree.{HasNumbers, ItemsHaveNumbers};
 ghost use Rattle.json.specs.Value.{value_view, items_view};
 ghost use Rattle.bidi_rows.specs.Part.{part_of};
-ghost use Rattle.bidi_rows.specs.Filling.{template_of};
+ghost use Rattle.bidi_rows.specs.Filling.{Template as Placed, template_of};
+ghost use Rattle.bidi_rows.specs.Rows as spec;
+ghost use Rattle.bidi_rows.specs.Refusals.{IfRefused};
 ghost use Rattle.bidi_rows.specs.Templates.{IsTemplate, AreTemplates, AreTemplateTexts};
 ghost use Rattle.bidi_rows.specs.View.{event_of, events_of, reply_of, answer_of, row_of};
-ghost use Rattle.bidi_rows.specs.Reading.{context_in, most_bytes, IsEvent, AreEvents, HasEvents, HasReply, HasAnswer, HasPart, HasTimes, IsFor, IsRow, IsAnswer, IsEventText};
+ghost use Rattle.bidi_rows.specs.Reading.{context_in, most_bytes, IsEvent, AreEvents, HasEvents, HasReply, HasAnswer, HasPart, HasTimes, IsFor, IsAnsweringRow, IsHoldingRow, IsAnswer, IsEventText};
 
 use crate::fault::RowFault;
-use crate::looking::{has_only, js_uint_of, object_at, string_at};
+use crate::looking::{has_only, items_in, js_uint_of, object_at, string_at};
 use crate::part::{Part, own};
 use crate::row::{Action, Answer, Event, Reply, Row};
 use crate::template::Template;
@@ -47,10 +49,12 @@ const ROW_NAMES: &[&str] = &[
 /// # Errors
 /// The first that holds: `NoMemory`, `TooLong`, `NotJson`, `Unexpected`, `NoMethod`, `DeepPart`, `BadTimes`, `BadReply`, and what
 /// [`read_event`] says of an event.
-#[tactic(auto, using(crate::proofs::ReadingLemmas::row_read))]
+#[tactic(auto, using(crate::proofs::ReadingLemmas::answering_read))]
 pub fn read_row(alloc: Global, text: &str, scratch: &mut Scratch) -> Result<Row, RowFault>
-    // After an Ok, the text is JSON for this row.
-    ensures { IfOk result (λ r. IsRow text.now (row_of r)) }
+    // After an Ok, the text is JSON for this row, and the row answers.
+    ensures ok { IfOk result (λ r. IsAnsweringRow text.now (row_of r)) }
+    // An error other than `NoMemory` comes only if the text is JSON for no row that answers.
+    ensures refused { IfRefused result ((r : spec.Row) → IsAnsweringRow text.now r → ⊥) }
 {
     let value = parsed(alloc, text, scratch)?;
     if !has_only(&value, ROW_NAMES) {
@@ -64,10 +68,12 @@ pub fn read_row(alloc: Global, text: &str, scratch: &mut Scratch) -> Result<Row,
 ///
 /// # Errors
 /// As [`read_row`].
-#[tactic(auto, using(crate::proofs::ReadingLemmas::row_read))]
+#[tactic(auto, using(crate::proofs::ReadingLemmas::holding_read))]
 pub fn read_hold(alloc: Global, text: &str, scratch: &mut Scratch) -> Result<Row, RowFault>
-    // After an Ok, the text is JSON for the row that is returned.
-    ensures { IfOk result (λ r. IsRow text.now (row_of r)) }
+    // After an Ok, the text is JSON for this row, and the row holds.
+    ensures ok { IfOk result (λ r. IsHoldingRow text.now (row_of r)) }
+    // An error other than `NoMemory` comes only if the text is JSON for no row that holds.
+    ensures refused { IfRefused result ((r : spec.Row) → IsHoldingRow text.now r → ⊥) }
 {
     let value = parsed(alloc, text, scratch)?;
     if !has_only(&value, HOLD_NAMES) {
@@ -84,7 +90,9 @@ pub fn read_hold(alloc: Global, text: &str, scratch: &mut Scratch) -> Result<Row
 #[tactic(auto, using(crate::proofs::ReadingLemmas::answer_read))]
 pub fn read_answer(alloc: Global, text: &str, scratch: &mut Scratch) -> Result<Answer, RowFault>
     // After an Ok, the text is JSON for this answer.
-    ensures { IfOk result (λ a. IsAnswer text.now (answer_of a)) }
+    ensures ok { IfOk result (λ a. IsAnswer text.now (answer_of a)) }
+    // An error other than `NoMemory` comes only if the text is JSON for no answer.
+    ensures refused { IfRefused result ((a : spec.Answer) → IsAnswer text.now a → ⊥) }
 {
     let value = parsed(alloc, text, scratch)?;
     if !has_only(&value, ANSWER_NAMES) {
@@ -99,7 +107,9 @@ pub fn read_answer(alloc: Global, text: &str, scratch: &mut Scratch) -> Result<A
 /// The first that holds: `NoMemory`, `TooLong`, `NotJson`, `Unexpected`, `NoMethod`, `NoParams`.
 pub fn read_event(alloc: Global, text: &str, scratch: &mut Scratch) -> Result<Event, RowFault>
     // After an Ok, the text is JSON for this event.
-    ensures { IfOk result (λ e. IsEventText text.now (event_of e)) }
+    ensures ok { IfOk result (λ e. IsEventText text.now (event_of e)) }
+    // An error other than `NoMemory` comes only if the text is JSON for no event.
+    ensures refused { IfRefused result ((e : spec.Event) → IsEventText text.now e → ⊥) }
 {
     let value = parsed(alloc, text, scratch)?;
     event_in(alloc, &value)
@@ -115,19 +125,22 @@ pub fn read_templates(
     scratch: &mut Scratch,
 ) -> Result<Vec<Template>, RowFault>
     // After an Ok, the text is JSON for an array of these events.
-    ensures { IfOk result (λ ts. AreTemplateTexts text.now (map template_of ts.items)) }
+    ensures ok { IfOk result (λ ts. AreTemplateTexts text.now (map template_of ts.items)) }
+    // An error other than `NoMemory` comes only if the text is JSON for no array of such events.
+    ensures refused { IfRefused result ((ts : List Placed) → AreTemplateTexts text.now ts → ⊥) }
 {
     let value = parsed(alloc, text, scratch)?;
-    match &value {
-        Value::Array(items) => templates_in(alloc, items),
-        _ => Err(RowFault::BadEvents),
-    }
+    let Some(items) = items_in(&value) else {
+        return Err(RowFault::BadEvents);
+    };
+    templates_in(alloc, items)
 }
 
 // The events with places of some items.
 fn templates_in(alloc: Global, items: &Vec<Value<'_>>) -> Result<Vec<Template>, RowFault>
     requires { ItemsHaveNumbers (items_view items.now.items) }
-    ensures { IfOk result (λ ts. AreTemplates (items_view items.now.items) (map template_of ts.items)) }
+    ensures ok { IfOk result (λ ts. AreTemplates (items_view items.now.items) (map template_of ts.items)) }
+    ensures refused { IfRefused result ((ts : List Placed) → AreTemplates (items_view items.now.items) ts → ⊥) }
 {
     let mut templates = Vec::new(alloc);
     for item in items {
@@ -140,7 +153,8 @@ fn templates_in(alloc: Global, items: &Vec<Value<'_>>) -> Result<Vec<Template>, 
 #[tactic(auto, using(crate::proofs::NumberLemmas::object_numbers))]
 fn template_in(alloc: Global, value: &Value<'_>) -> Result<Template, RowFault>
     requires { HasNumbers (value_view value.now) }
-    ensures { IfOk result (λ t. IsTemplate (value_view value.now) (template_of t)) }
+    ensures ok { IfOk result (λ t. IsTemplate (value_view value.now) (template_of t)) }
+    ensures refused { IfRefused result ((t : Placed) → IsTemplate (value_view value.now) t → ⊥) }
 {
     if !has_only(value, EVENT_NAMES) {
         return Err(RowFault::Unexpected);
@@ -162,6 +176,7 @@ fn parsed<'a>(alloc: Global, text: &'a str, scratch: &'a mut Scratch) -> Result<
     ensures json { IfOk result (λ v. document text.now ≡ Some (value_view v)) }
     ensures few { OnOk result (length text.now ≤ most_bytes) }
     ensures numbers { IfOk result (λ v. HasNumbers (value_view v)) }
+    ensures refused { IfRefused result ((j : Json) → length text.now ≤ most_bytes → document text.now ≡ Some j → ⊥) }
 {
     if text.len() > MOST_BYTES {
         return Err(RowFault::TooLong);
@@ -174,6 +189,7 @@ fn row_in(alloc: Global, value: &Value<'_>, action: Action, bytes: usize) -> Res
     ensures is_for { IfOk result (λ r. IsFor (value_view value.now) (row_of r)) }
     ensures does { IfOk result (λ r. r.action ≡ action) }
     ensures bytes { IfOk result (λ r. r.bytes ≡ bytes) }
+    ensures refused { IfRefused result ((r : spec.Row) → IsFor (value_view value.now) r → ⊥) }
 {
     let Some(method) = string_at(value, "method") else {
         return Err(RowFault::NoMethod);
@@ -192,7 +208,8 @@ fn row_in(alloc: Global, value: &Value<'_>, action: Action, bytes: usize) -> Res
 
 // The part that is the property `params`, if there is one.
 fn part_in(alloc: Global, property: Option<&Value<'_>>) -> Result<Option<Part>, RowFault>
-    ensures { IfOk result (λ part. HasPart (option_map (λ v. value_view v.now) property.entry) (option_map part_of part)) }
+    ensures ok { IfOk result (λ part. HasPart (option_map (λ v. value_view v.now) property.entry) (option_map part_of part)) }
+    ensures refused { IfRefused result ((part : Option Json) → HasPart (option_map (λ v. value_view v.now) property.entry) part → ⊥) }
 {
     let Some(part) = property else {
         return Ok(None);
@@ -205,21 +222,26 @@ fn part_in(alloc: Global, property: Option<&Value<'_>>) -> Result<Option<Part>, 
 
 // How often the property `times` lets a row be used, if there is one.
 fn times_in(property: Option<&Value<'_>>) -> Result<Option<u64>, RowFault>
-    ensures { IfOk result (λ left. HasTimes (option_map (λ v. value_view v.now) property.entry) left) }
+    ensures ok { IfOk result (λ left. HasTimes (option_map (λ v. value_view v.now) property.entry) left) }
+    ensures refused { IfRefused result ((left : Option ℕ) → HasTimes (option_map (λ v. value_view v.now) property.entry) left → ⊥) }
 {
-    let Some(times) = property else {
+    let Some(value) = property else {
         return Ok(None);
     };
-    match js_uint_of(times) {
-        Some(times) if times.value > 0 => Ok(Some(times.value)),
-        _ => Err(RowFault::BadTimes),
+    let Some(times) = js_uint_of(value) else {
+        return Err(RowFault::BadTimes);
+    };
+    if times.value == 0 {
+        return Err(RowFault::BadTimes);
     }
+    Ok(Some(times.value))
 }
 
 // The answer of these properties.
 fn answer_in(alloc: Global, value: &Value<'_>) -> Result<Answer, RowFault>
     requires { HasNumbers (value_view value.now) }
-    ensures { IfOk result (λ a. HasAnswer (value_view value.now) (answer_of a)) }
+    ensures ok { IfOk result (λ a. HasAnswer (value_view value.now) (answer_of a)) }
+    ensures refused { IfRefused result ((a : spec.Answer) → HasAnswer (value_view value.now) a → ⊥) }
 {
     let before = events_in(alloc, value.get("before"))?;
     let reply = reply_in(alloc, value)?;
@@ -235,29 +257,45 @@ fn answer_in(alloc: Global, value: &Value<'_>) -> Result<Answer, RowFault>
 #[tactic(auto, using(crate::proofs::NumberLemmas::object_numbers))]
 fn reply_in(alloc: Global, value: &Value<'_>) -> Result<Reply, RowFault>
     requires { HasNumbers (value_view value.now) }
-    ensures { IfOk result (λ r. HasReply (value_view value.now) (reply_of r)) }
+    ensures ok { IfOk result (λ r. HasReply (value_view value.now) (reply_of r)) }
+    ensures refused { IfRefused result ((r : spec.Reply) → HasReply (value_view value.now) r → ⊥) }
 {
-    if value.get("error").is_none() && value.get("message").is_none() {
+    if !has_error(value) {
         let Some(found) = object_at(value, "result") else {
             return Err(RowFault::BadReply);
         };
         return Ok(Reply::Result(compact(alloc, found)?));
     }
-    if value.get("result").is_some() {
+    if has(value, "result") {
         return Err(RowFault::BadReply);
     }
     error_in(alloc, value)
 }
 
+// Whether there is a property `error` or `message`.
+fn has_error(value: &Value<'_>) -> bool
+    ensures { result ≡ (is_some (get (codes "error") (value_view value.now)) || is_some (get (codes "message") (value_view value.now))) }
+{
+    has(value, "error") || has(value, "message")
+}
+
+// Whether there is a property of this name.
+fn has(value: &Value<'_>, name: &str) -> bool
+    ensures { result ≡ is_some (get name.now (value_view value.now)) }
+{
+    value.get(name).is_some()
+}
+
 // The error of these properties, which have no `result`.
 fn error_in(alloc: Global, value: &Value<'_>) -> Result<Reply, RowFault>
     requires { get (codes "result") (value_view value.now) ≡ None }
-    ensures { IfOk result (λ r. HasReply (value_view value.now) (reply_of r)) }
+    ensures ok { IfOk result (λ r. HasReply (value_view value.now) (reply_of r)) }
+    ensures refused { IfRefused result ((r : spec.Reply) → HasReply (value_view value.now) r → ⊥) }
 {
     let Some(code) = string_at(value, "error") else {
         return Err(RowFault::BadReply);
     };
-    if value.get("message").is_none() {
+    if !has(value, "message") {
         return Ok(Reply::Error(quoted(alloc, code)?, quoted(alloc, code)?));
     }
     let Some(message) = string_at(value, "message") else {
@@ -269,7 +307,8 @@ fn error_in(alloc: Global, value: &Value<'_>) -> Result<Reply, RowFault>
 // The events of a property, if there is one.
 fn events_in(alloc: Global, property: Option<&Value<'_>>) -> Result<Vec<Event>, RowFault>
     requires { IfSome property (λ v. HasNumbers (value_view v.now)) }
-    ensures { IfOk result (λ es. HasEvents (option_map (λ v. value_view v.now) property.entry) (events_of es.items)) }
+    ensures ok { IfOk result (λ es. HasEvents (option_map (λ v. value_view v.now) property.entry) (events_of es.items)) }
+    ensures refused { IfRefused result ((es : List spec.Event) → HasEvents (option_map (λ v. value_view v.now) property.entry) es → ⊥) }
 {
     match property {
         None => Ok(Vec::new(alloc)),
@@ -280,18 +319,20 @@ fn events_in(alloc: Global, property: Option<&Value<'_>>) -> Result<Vec<Event>, 
 // The events of an array.
 fn listed_events(alloc: Global, value: &Value<'_>) -> Result<Vec<Event>, RowFault>
     requires { HasNumbers (value_view value.now) }
-    ensures { IfOk result (λ es. HasEvents (Some (value_view value.now)) (events_of es.items)) }
+    ensures ok { IfOk result (λ es. HasEvents (Some (value_view value.now)) (events_of es.items)) }
+    ensures refused { IfRefused result ((es : List spec.Event) → HasEvents (Some (value_view value.now)) es → ⊥) }
 {
-    match value {
-        Value::Array(items) => all_events_in(alloc, items),
-        _ => Err(RowFault::BadEvents),
-    }
+    let Some(items) = items_in(value) else {
+        return Err(RowFault::BadEvents);
+    };
+    all_events_in(alloc, items)
 }
 
 // The events of some items.
 fn all_events_in(alloc: Global, items: &Vec<Value<'_>>) -> Result<Vec<Event>, RowFault>
     requires { ItemsHaveNumbers (items_view items.now.items) }
-    ensures { IfOk result (λ es. AreEvents (items_view items.now.items) (events_of es.items)) }
+    ensures ok { IfOk result (λ es. AreEvents (items_view items.now.items) (events_of es.items)) }
+    ensures refused { IfRefused result ((es : List spec.Event) → AreEvents (items_view items.now.items) es → ⊥) }
 {
     let mut events = Vec::new(alloc);
     for item in items {
@@ -304,7 +345,8 @@ fn all_events_in(alloc: Global, items: &Vec<Value<'_>>) -> Result<Vec<Event>, Ro
 #[tactic(auto, using(crate::proofs::NumberLemmas::object_numbers))]
 fn event_in(alloc: Global, value: &Value<'_>) -> Result<Event, RowFault>
     requires { HasNumbers (value_view value.now) }
-    ensures { IfOk result (λ e. IsEvent (value_view value.now) (event_of e)) }
+    ensures ok { IfOk result (λ e. IsEvent (value_view value.now) (event_of e)) }
+    ensures refused { IfRefused result ((e : spec.Event) → IsEvent (value_view value.now) e → ⊥) }
 {
     if !has_only(value, EVENT_NAMES) {
         return Err(RowFault::Unexpected);
