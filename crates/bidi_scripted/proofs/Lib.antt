@@ -3,3 +3,4 @@ pub mod UseLemmas
 pub mod FateLemmas
 pub mod MethodLemmas
 pub mod SendLemmas
+pub mod FaultLemmas

@@ -1,6 +1,6 @@
 -- The names of events and modules that a test made known. This project's own.
 use Rattle.std.specs.Prelude.{ℕ, ◌==◌, nat_le, Bool, ◌&&◌, ◌||◌, List, length, get_or, codes, bytes_eq, eqb}
-use Rattle.std.specs.List.{list_all, list_any, starts_with}
+use Rattle.std.specs.List.{list_all, list_any, starts_with, slice_split}
 
 -- whether a byte can stand in a name: a letter, a digit, `.`, `:`, `-` or `_`
 abbrev pub is_name_byte : ℕ → Bool
@@ -14,6 +14,15 @@ longest_name = 255
 -- whether this is a name: 1 to 255 such bytes
 abbrev pub is_name : List ℕ → Bool
 is_name name = nat_le 1 (length name) && (nat_le (length name) longest_name && list_all is_name_byte name)
+
+-- the words of a text: what stands between its blanks; two blanks have an empty word between them
+-- example: `a b.c` has `a` and `b.c`
+abbrev pub words : List ℕ → List (List ℕ)
+words text = slice_split (λ b. b == 32) text
+
+-- whether a word can be made known: it is a name, or `*`, which makes all names known
+abbrev pub can_be_known : List ℕ → Bool
+can_be_known word = bytes_eq word (codes "*") || is_name word
 
 -- whether a name is that of an event in the module of this name: it starts with the module, and a `.` follows
 -- example: `network.fetchError` is in `network`

@@ -57,6 +57,10 @@ most_held = 1024
 abbrev pub most_numbers : ℕ
 most_numbers = 1000000000
 
+-- how many names can be known
+abbrev pub most_known : ℕ
+most_known = 1024
+
 -- how many bytes all rows and held commands can have
 abbrev pub most_kept : ℕ
 most_kept = 268435456
@@ -72,6 +76,14 @@ can_keep script bytes = nat_le (bytes + kept script) most_kept
 -- whether one more row of so many bytes can be kept
 abbrev pub has_room_for_row : Script → ℕ → Bool
 has_room_for_row script bytes = nat_lt (length script.rows) most_rows && can_keep script bytes
+
+-- whether events of so many bytes can follow those of one more method
+abbrev pub has_room_for_follower : Script → ℕ → Bool
+has_room_for_follower script bytes = nat_lt (length script.followers) most_rows && can_keep script bytes
+
+-- whether so many names more can be known
+abbrev pub has_room_for_names : Script → ℕ → Bool
+has_room_for_names script more = nat_le (length script.known + more) most_known
 
 -- whether one more command of so many bytes can be held
 abbrev pub has_room_for_command : Script → ℕ → Bool

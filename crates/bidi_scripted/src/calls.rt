@@ -1,20 +1,22 @@
 //! The calls of a test.
-ghost use Rattle.std.specs.Prelude.{◌≡◌, ◌≤◌, ◌==◌, not, [], ◌∷◌, List, ℕ, map, length, true, false, Some, None, Err, IfOk, OnOk, OnErr, IsErrOf, option_map, string_bytes};
+ghost use Rattle.std.specs.List.{list_all};
+ghost use Rattle.std.specs.Prelude.{◌≡◌, ◌≤◌, ◌==◌, not, [], ◌∷◌, List, ℕ, map, length, true, false, Option, Some, None, Err, IfOk, IfErr, OnOk, OnErr, IsErrOf, option_map, string_bytes};
 ghost use Rattle.bidi_sessions.specs.Limits.{most_steps};
 ghost use Rattle.bidi_sessions.specs.View.{sent_of};
 ghost use Rattle.bidi_sessions.specs.Step as steps;
 ghost use Rattle.bidi_rows.specs.Rows as spec;
 ghost use Rattle.bidi_rows.specs.Filling.{Template};
 ghost use Rattle.bidi_rows.specs.Templates.{AreTemplateTexts};
-ghost use Rattle.bidi_rows.specs.Reading.{IsRow, IsAnswer, IsEventText};
+ghost use Rattle.bidi_rows.specs.Reading.{IsAnsweringRow, IsHoldingRow, IsAnswer, IsEventText};
 ghost use Rattle.bidi_rows.specs.View.{row_of, answer_of};
 ghost use Rattle.bidi_remote.specs.Machine.History.{Input, IsHeardAs};
 ghost use Rattle.bidi_remote.specs.Machine.Outcome.{deeds};
 ghost use Rattle.bidi_remote.specs.Machine.Sent.{out, Lost};
 ghost use Rattle.bidi_remote.specs.State.Stands.{StandsFor};
 ghost use Rattle.bidi_scripted.specs.Script as script;
-ghost use Rattle.bidi_scripted.specs.Script.{with_row, with_follower, with_names, without_method, without_held, held_by};
-ghost use Rattle.bidi_scripted.specs.Names.{is_known};
+ghost use Rattle.bidi_scripted.specs.Script.{most_rows, can_keep, has_room_for_row, has_room_for_follower, has_room_for_names, with_row, with_follower, with_names, without_method, without_held, held_by};
+ghost use Rattle.bidi_scripted.specs.Names.{is_known, words, can_be_known};
+ghost use Rattle.bidi_scripted.specs.Faults.{RefusesRow, RefusesFollower, RefusesNames, RefusesEvent, RefusesRelease, RefusesAnswer};
 ghost use Rattle.bidi_scripted.specs.Becomes.{TakesPart};
 ghost use Rattle.bidi_scripted.specs.Sending.{emitted, release_sent, followed_by};
 ghost use Rattle.bidi_scripted.specs.View.{script_of, held_of};
@@ -32,9 +34,6 @@ use bidi_tree::JsUint;
 use json::Scratch;
 use std::alloc::AllocError;
 
-/// How many names can be known.
-const MOST_KNOWN: usize = 1_024;
-
 impl ScriptedEnd {
     /// Adds a row that answers commands: from now on it is the newest row.
     ///
@@ -44,8 +43,12 @@ impl ScriptedEnd {
     /// # Errors
     /// Nothing has changed then. `NoMemory`, `BadRow`, `TooManyRows`, `TooMuchKept`.
     pub fn answer(&mut self, row: &str) -> Result<(), ScriptFault>
-        // After an Ok, the text is JSON for a row, and this row is the newest of the script.
-        ensures ok { OnOk result ((r : spec.Row) × IsRow row.now r × (script_of self.new.script ≡ with_row r (script_of self.old.script))) }
+        // After an Ok, the text is JSON for a row that answers, and this row is the newest of the script.
+        ensures ok { OnOk result ((r : spec.Row) × IsAnsweringRow row.now r × (script_of self.new.script ≡ with_row r (script_of self.old.script))) }
+        // An Ok comes only if there was room for the row.
+        ensures room { OnOk result (has_room_for_row (script_of self.old.script) (length row.now) ≡ true) }
+        // An error has a reason of the definition: `BadRow`, `TooManyRows` or `TooMuchKept`, in this order.
+        ensures refused { IfErr result (RefusesRow (IsAnsweringRow row.now) (script_of self.old.script) (length row.now)) }
         // After an error the script is as it was.
         ensures err { OnErr result (script_of self.new.script ≡ script_of self.old.script) }
         // The remote end is unchanged.
@@ -65,8 +68,12 @@ impl ScriptedEnd {
     /// # Errors
     /// As [`ScriptedEnd::answer`].
     pub fn hold(&mut self, row: &str) -> Result<(), ScriptFault>
-        // After an Ok, the text is JSON for a row, and this row is the newest of the script.
-        ensures ok { OnOk result ((r : spec.Row) × IsRow row.now r × (script_of self.new.script ≡ with_row r (script_of self.old.script))) }
+        // After an Ok, the text is JSON for a row that holds, and this row is the newest of the script.
+        ensures ok { OnOk result ((r : spec.Row) × IsHoldingRow row.now r × (script_of self.new.script ≡ with_row r (script_of self.old.script))) }
+        // An Ok comes only if there was room for the row.
+        ensures room { OnOk result (has_room_for_row (script_of self.old.script) (length row.now) ≡ true) }
+        // An error has a reason of the definition: `BadRow`, `TooManyRows` or `TooMuchKept`, in this order.
+        ensures refused { IfErr result (RefusesRow (IsHoldingRow row.now) (script_of self.old.script) (length row.now)) }
         // After an error the script is as it was.
         ensures err { OnErr result (script_of self.new.script ≡ script_of self.old.script) }
         // The remote end is unchanged.
@@ -81,6 +88,8 @@ impl ScriptedEnd {
 
     // Adds a row, if there is room.
     fn add_row(&mut self, row: Row) -> Result<(), ScriptFault>
+        ensures room { OnOk result (has_room_for_row (script_of self.old.script) row.bytes ≡ true) }
+        ensures refused { IfErr result (RefusesRow (λ r. r ≡ row_of row) (script_of self.old.script) row.bytes) }
         ensures ok { OnOk result (script_of self.new.script ≡ with_row (row_of row) (script_of self.old.script)) }
         ensures err { OnErr result (script_of self.new.script ≡ script_of self.old.script) }
         ensures end { self.new.end ≡ self.old.end }
@@ -120,6 +129,8 @@ impl ScriptedEnd {
     pub fn release(&mut self, number: u64) -> Result<Taken, ScriptFault>
         // If no command of this number is held, the call fails with `NotHeld`.
         ensures not_held { held_by number (script_of self.old.script) ≡ None → result ≡ Err NotHeld }
+        // An error has a reason of the definition: `NotHeld` comes only if no command of this number is held.
+        ensures refused { IfErr result (RefusesRelease (held_by number (script_of self.old.script))) }
         // A command whose connection was opened anew is lost, and the remote end is unchanged.
         ensures lost { (held : script.Held) → held_by number (script_of self.old.script) ≡ Some held → held.is_lost ≡ true
             → IfOk result (λ t. (map sent_of t.sent.items ≡ Lost held.conn ∷ []) × (t.is_of_machine ≡ false) × (t.held ≡ None) × (self.new.end ≡ self.old.end)) }
@@ -157,6 +168,7 @@ impl ScriptedEnd {
         ensures err { OnErr result (script_of self.new.script ≡ script_of self.old.script) }
         ensures end { self.new.end ≡ self.old.end }
         ensures worn_out { IsErrOf result ScriptFault.WornOut → ⊥ }
+        ensures refused { (held : Option script.Held) → IfErr result (RefusesRelease held) }
     {
         match only(self.alloc, Sent::Lost(conn)) {
             Ok(sent) => {
@@ -186,6 +198,7 @@ impl ScriptedEnd {
         ensures err { OnErr result ((script_of self.new.script ≡ script_of self.old.script)
             × ((h : List Input) → StandsFor self.old.end h → StandsFor self.new.end h)) }
         ensures worn_out { (h : List Input) → StandsFor self.old.end h → IsErrOf result ScriptFault.WornOut → most_steps ≤ length h }
+        ensures refused { (held : Option script.Held) → IfErr result (RefusesRelease held) }
     {
         match self.hear_names(conn, text) {
             Ok(taken) => {
@@ -203,6 +216,8 @@ impl ScriptedEnd {
     pub fn release_with(&mut self, number: u64, answer: &str) -> Result<Vec<Sent>, ScriptFault>
         // If no command of this number is held, the call fails.
         ensures not_held { held_by number (script_of self.old.script) ≡ None → result ≡ Err NotHeld }
+        // An error has a reason of the definition: `NotHeld`, or `BadRow` if the text is JSON for no answer, in this order.
+        ensures refused { IfErr result (RefusesAnswer answer.now (held_by number (script_of self.old.script))) }
         // Otherwise the events before, one reply and the events after are sent; if the connection is gone, the command is lost.
         ensures answered { (h : List Input) (held : script.Held) → StandsFor self.old.end h → held_by number (script_of self.old.script) ≡ Some held
             → IfOk result (λ sent. (a : spec.Answer) × IsAnswer answer.now a × (map sent_of sent.items ≡ release_sent (deeds h) (script_of self.old.script).named held a)) }
@@ -247,6 +262,8 @@ impl ScriptedEnd {
         // After an Ok, the event of this text goes to the sessions that it reaches, in the machine's order, and to no other.
         ensures ok { (h : List Input) → StandsFor self.now.end h
             → IfOk result (λ sent. (e : spec.Event) × IsEventText event.now e × (map sent_of sent.items ≡ emitted (deeds h) (script_of self.now.script).named e)) }
+        // An error has a reason of the definition: `BadRow` comes only if the text is JSON for no event.
+        ensures refused { IfErr result (RefusesEvent event.now) }
         // `WornOut` comes only if the remote end has accepted `most_steps` steps.
         ensures worn_out { (h : List Input) → StandsFor self.now.end h → IsErrOf result ScriptFault.WornOut → most_steps ≤ length h }
     {
@@ -266,6 +283,10 @@ impl ScriptedEnd {
         // After an Ok, the events of this text follow those of the method, and no others do.
         ensures ok { OnOk result ((ts : List Template) × AreTemplateTexts events.now ts × (script_of self.new.script
             ≡ with_follower (record { method = method.now; events = ts; bytes = length events.now }) (script_of self.old.script))) }
+        // An Ok comes only if there was room for the events.
+        ensures room { OnOk result (has_room_for_follower (script_of self.old.script) (length events.now) ≡ true) }
+        // An error has a reason of the definition: `BadRow`, `TooManyRows` or `TooMuchKept`, in this order.
+        ensures refused { IfErr result (RefusesFollower events.now (script_of self.old.script)) }
         // After an error the script is as it was.
         ensures err { OnErr result (script_of self.new.script ≡ script_of self.old.script) }
         // The remote end is unchanged.
@@ -274,18 +295,22 @@ impl ScriptedEnd {
         ensures worn_out { IsErrOf result ScriptFault.WornOut → ⊥ }
     {
         let mut scratch = Scratch::new(self.alloc);
-        let follower = Follower {
-            events: read_templates(self.alloc, events, &mut scratch)?,
-            method: String::from_str(self.alloc, method)?,
-            bytes: events.len(),
-        };
+        let bytes = events.len();
+        let events = read_templates(self.alloc, events, &mut scratch)?;
+        let method = String::from_str(self.alloc, method)?;
         if !self.script.has_few_followers() {
             return Err(ScriptFault::TooManyRows);
         }
-        if !self.script.can_keep(follower.bytes) {
+        if !self.script.can_keep(bytes) {
             return Err(ScriptFault::TooMuchKept);
         }
-        Ok(self.script.follow(follower)?)
+        Ok(
+            self.script.follow(Follower {
+                method,
+                events,
+                bytes,
+            })?,
+        )
     }
 
     /// Whether a test had events follow others. Takes no memory.
@@ -320,8 +345,14 @@ impl ScriptedEnd {
     /// # Errors
     /// Nothing has changed then. `NoMemory`, `BadName`, `TooManyNames`.
     pub fn names(&mut self, names: &str) -> Result<(), ScriptFault>
-        // After an Ok, more names are known, and nothing else of the script has changed.
-        ensures ok { OnOk result ((more : List (List ℕ)) × (script_of self.new.script ≡ with_names more (script_of self.old.script))) }
+        // After an Ok, the words of the text are known as well, and nothing else of the script has changed.
+        ensures ok { OnOk result (script_of self.new.script ≡ with_names (words names.now) (script_of self.old.script)) }
+        // An Ok comes only if each word is a name or `*`.
+        ensures named { OnOk result (list_all can_be_known (words names.now) ≡ true) }
+        // An Ok comes only if there was room for so many names.
+        ensures room { OnOk result (has_room_for_names (script_of self.old.script) (length (words names.now)) ≡ true) }
+        // An error has a reason of the definition: `BadName` or `TooManyNames`, in this order.
+        ensures refused { IfErr result (RefusesNames names.now (script_of self.old.script)) }
         // After an error the script is as it was.
         ensures err { OnErr result (script_of self.new.script ≡ script_of self.old.script) }
         // The remote end is unchanged.
@@ -330,7 +361,7 @@ impl ScriptedEnd {
         ensures worn_out { IsErrOf result ScriptFault.WornOut → ⊥ }
     {
         let names = names_in(self.alloc, names)?;
-        if self.script.known.len().saturating_add(names.len()) > MOST_KNOWN {
+        if !self.script.has_room_for_names(names.len()) {
             return Err(ScriptFault::TooManyNames);
         }
         Ok(self.script.know(names)?)

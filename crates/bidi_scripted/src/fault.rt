@@ -1,7 +1,7 @@
 //! Why a call of a scripted end had no effect.
-ghost use Rattle.std.specs.Prelude.{◌≡◌, ◌≢◌};
-ghost use Rattle.bidi_scripted.specs.Faults.{fault_of};
-ghost use Rattle.bidi_scripted.specs.declared.fault.ScriptFault.TheVariants.{NoMemory, WornOut};
+ghost use Rattle.std.specs.Prelude.{◌≡◌};
+ghost use Rattle.bidi_scripted.specs.Faults.{fault_of, fault_of_row};
+ghost use Rattle.bidi_scripted.specs.declared.fault.ScriptFault.TheVariants.{NoMemory};
 
 use bidi_remote::RemoteFault;
 use bidi_rows::RowFault;
@@ -65,7 +65,7 @@ impl From<RemoteFault> for ScriptFault {
 }
 
 impl From<RowFault> for ScriptFault {
-    ghost from_gives = { λ _ fault. fault ≢ WornOut };
+    ghost from_gives = { λ error fault. fault ≡ fault_of_row error };
 
     fn from(error: RowFault) -> ScriptFault {
         match error {

@@ -1,7 +1,9 @@
 //! The names of events and modules that a test made known, and what sessions ask of them.
-ghost use Rattle.std.specs.Prelude.{◌≡◌, ◌==◌, get_or, map, string_bytes, eqb, IsErrOf};
+ghost use Rattle.std.specs.Prelude.{◌≡◌, ◌==◌, get_or, map, string_bytes, eqb, true, IfOk, IfErr, OnOk};
 ghost use Rattle.std.specs.List.{starts_with, list_all, list_any};
-ghost use Rattle.bidi_scripted.specs.Names.{is_in, is_or_in, makes_known, is_known, is_name, is_name_byte};
+ghost use Rattle.bidi_scripted.specs.Names.{is_in, is_or_in, makes_known, is_known, is_name, is_name_byte, words, can_be_known};
+ghost use Rattle.bidi_scripted.specs.Script.{Script};
+ghost use Rattle.bidi_scripted.specs.Faults.{RefusesNames};
 
 use crate::fault::ScriptFault;
 use bidi_handles::{IdKind, Refusal, id_number};
@@ -50,16 +52,52 @@ const LONGEST_NAME: usize = 255;
 /// # Errors
 /// `NoMemory`, or `BadName` if one is no name that can be made known.
 pub(crate) fn names_in(alloc: Global, text: &str) -> Result<Vec<String>, ScriptFault>
-    ensures worn_out { IsErrOf result ScriptFault.WornOut → ⊥ }
+    ensures ok { IfOk result (λ names. map string_bytes names.items ≡ words text.now) }
+    ensures named { OnOk result (list_all can_be_known (words text.now) ≡ true) }
+    ensures refused { (s : Script) → IfErr result (RefusesNames text.now s) }
+{
+    let words = words(alloc, text)?;
+    if !can_all_be_known(&words) {
+        return Err(ScriptFault::BadName);
+    }
+    Ok(owned(alloc, &words)?)
+}
+
+// The words of a text: what stands between its blanks.
+fn words<'a>(alloc: Global, text: &'a str) -> Result<Vec<&'a str>, AllocError>
+    ensures { IfOk result (λ found. map (λ w. w.now) found.items ≡ words text.now) }
+{
+    text.split(' ').collect(alloc)
+}
+
+// The same texts, with bytes of their own.
+fn owned(alloc: Global, texts: &[&str]) -> Result<Vec<String>, AllocError>
+    ensures { IfOk result (λ names. map string_bytes names.items ≡ map (λ t. t.now) texts.now) }
 {
     let mut names = Vec::new(alloc);
-    for name in text.split(' ') {
-        if name != "*" && !is_name(name) {
-            return Err(ScriptFault::BadName);
-        }
-        names.push(String::from_str(alloc, name)?)?;
+    for text in texts {
+        names.push(String::from_str(alloc, *text)?)?;
     }
     Ok(names)
+}
+
+// Whether each of these words can be made known.
+fn can_all_be_known(words: &[&str]) -> bool
+    ensures { result ≡ list_all can_be_known (map (λ w. w.now) words.now) }
+{
+    for word in words {
+        if !can_be_known(*word) {
+            return false;
+        }
+    }
+    true
+}
+
+// Whether a word can be made known: it is a name, or `*`.
+fn can_be_known(word: &str) -> bool
+    ensures { result ≡ can_be_known word.now }
+{
+    word == "*" || is_name(word)
 }
 
 // Whether a text is a name: 1 to 255 letters, digits, `.`, `:`, `-` and `_`.

@@ -4,7 +4,7 @@ ghost use Rattle.std.specs.List.{position};
 ghost use Rattle.bidi_rows.specs.Command.{Command};
 ghost use Rattle.bidi_rows.specs.Rows.{matches};
 ghost use Rattle.bidi_rows.specs.View.{row_of};
-ghost use Rattle.bidi_scripted.specs.Script.{no_script, is_plain, most_rows, most_numbers, can_keep, has_room_for_command, total, used, with_row, with_use, without_method, with_held, without_held, with_opening, with_follower, with_names, lost_on, held_by};
+ghost use Rattle.bidi_scripted.specs.Script.{no_script, is_plain, most_rows, most_numbers, can_keep, has_room_for_command, has_room_for_names, total, used, with_row, with_use, without_method, with_held, without_held, with_opening, with_follower, with_names, lost_on, held_by};
 ghost use Rattle.bidi_scripted.specs.Subscriptions.{Named};
 ghost use Rattle.bidi_scripted.specs.View.{held_of, follower_of, script_of};
 
@@ -22,6 +22,9 @@ const MOST_HELD: usize = 1_024;
 
 /// How many commands can ever be held.
 const MOST_NUMBERS: u64 = 1_000_000_000;
+
+/// How many names can be known.
+const MOST_KNOWN: usize = 1_024;
 
 /// How many bytes all rows and held commands can have.
 const MOST_KEPT: usize = 268_435_456;
@@ -92,7 +95,9 @@ impl Script {
     }
 
     /// Whether there is room for one more entry of followers.
-    pub(crate) fn has_few_followers(&self) -> bool {
+    pub(crate) fn has_few_followers(&self) -> bool
+        ensures { result ≡ nat_lt (length (script_of self.now).followers) most_rows }
+    {
         self.followers.len() < MOST_ROWS
     }
 
@@ -162,6 +167,13 @@ impl Script {
         remove_followers(&mut self.followers, follower.method.as_str());
         self.followers.push_reserved(follower);
         Ok(())
+    }
+
+    /// Whether so many names more can be known.
+    pub(crate) fn has_room_for_names(&self, more: usize) -> bool
+        ensures { result ≡ has_room_for_names (script_of self.now) more }
+    {
+        self.known.len().saturating_add(more) <= MOST_KNOWN
     }
 
     /// Adds a name that is known.

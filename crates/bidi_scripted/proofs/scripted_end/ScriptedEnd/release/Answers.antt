@@ -16,3 +16,9 @@ pub returns-then-held-clause-lost : goal.returns-then-held-clause-lost
 returns-then-held-clause-lost c = λ held is lost.
     let same : held_of c.in-Some.held.now ≡ held = some-same _ _ (c.in-Some.ensures ∙ is) in
     if-ok c.release_lost.result (λ t p. (p.0 ∙ ap (λ (h : Held). Lost h.conn ∷ []) same, p.1, p.2, c.release_lost.ensures.end)) c.release_lost.ensures.lost
+
+pub returns-then-held-clause-refused : goal.returns-then-held-clause-refused
+returns-then-held-clause-refused c = c.release_lost.ensures.refused _
+
+pub returns-in-Ok-clause-refused : goal.returns-in-Ok-clause-refused
+returns-in-Ok-clause-refused c = c.release_text.ensures.refused _
