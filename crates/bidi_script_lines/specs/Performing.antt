@@ -1,5 +1,5 @@
 -- What each line of a scripted play brings about, in the words of the scripted end. Defined by this project.
-use Rattle.std.specs.Prelude.{◌≡◌, ◌⊎◌, ℕ, ◌≤◌, ◌%◌, ◌==◌, nat_le, Bool, true, false, ◌&&◌, ◌||◌, if◌then◌else◌, List, [], ◌∷◌, length, map, IfOk, OnErr, IsErrOf, ◌↔◌, Result, Some}
+use Rattle.std.specs.Prelude.{◌≡◌, ◌⊎◌, ℕ, ◌≤◌, ◌%◌, ◌==◌, nat_le, Bool, true, false, ◌&&◌, ◌||◌, if◌then◌else◌, List, [], ◌∷◌, length, map, IfOk, OnErr, IsErrOf, ◌↔◌, Result, Some, None}
 use Rattle.std.specs.List.{list_all}
 use Rattle.std.specs.Option.{option_map_or}
 use Rattle.bidi_sessions.specs.Step.{Step}
@@ -14,15 +14,18 @@ use Rattle.bidi_remote.specs.declared.remote_end.RemoteFault.{RemoteFault}
 use Rattle.bidi_remote.specs.declared.remote_end.RemoteFault.TheVariants.{WornOut}
 use Rattle.bidi_rows.specs.Filling.{Template}
 use Rattle.bidi_rows.specs.Rows.{Row, Event, Answer}
-use Rattle.bidi_rows.specs.Reading.{IsAnswer, IsRow, IsEventText}
+use Rattle.bidi_rows.specs.Reading.{IsAnswer, IsAnsweringRow, IsHoldingRow, IsEventText}
 use Rattle.bidi_rows.specs.Templates.{AreTemplateTexts}
 use Rattle.bidi_sessions.specs.Step as steps
 use Rattle.bidi_scripted.specs.Script as script
-use Rattle.bidi_scripted.specs.Script.{no_script, held_by, without_held, without_method, with_follower, with_names, with_row}
+use Rattle.bidi_scripted.specs.Names.{words, can_be_known}
+use Rattle.bidi_scripted.specs.Script.{Script, no_script, has_room_for_row, has_room_for_follower, has_room_for_names, held_by, without_held, without_method, with_follower, with_names, with_row}
 use Rattle.bidi_scripted.specs.Sending.{emitted, release_sent}
 use Rattle.bidi_scripted.specs.View.{script_of}
 use Rattle.bidi_scripted.specs.Becomes.{Becomes}
 use Rattle.bidi_scripted.specs.Fate.{fate}
+use Rattle.bidi_scripted.specs.declared.fault.ScriptFault.{ScriptFault}
+use Rattle.bidi_scripted.specs.declared.fault.ScriptFault.TheVariants as faults
 use Rattle.bidi_scripted.specs.declared.scripted_end.ScriptedEnd.{ScriptedEnd}
 use Rattle.bidi_scripted.specs.declared.scripted_end.Taken.{Taken}
 use Rattle.bidi_sessions.specs.View.{sent_of}
@@ -49,13 +52,24 @@ IsUnchanged old new = (new.end ≡ old.end) × (script_of new.script ≡ script_
 abbrev pub StandsAsBefore : ScriptedEnd → ScriptedEnd → Type 0
 StandsAsBefore old new = (script_of new.script ≡ script_of old.script) × ((h : List Input) → StandsFor old.end h → StandsFor new.end h)
 
+-- the fault is a reason for which a line has no effect: it is neither `NoMemory` nor `WornOut`
+abbrev pub HasReason : ScriptFault → Type 0
+HasReason faults.NoMemory = ⊥
+HasReason faults.WornOut = ⊥
+HasReason fault = Unit {0}
+
 -- nothing has happened, for some reason
 abbrev pub HasNoEffect : ScriptedEnd → ScriptedEnd → Outcome → Type 0
 HasNoEffect old new o = (reason : List ℕ) × (o ≡ NoEffect reason) × IsUnchanged old new
 
--- the row of this text is the newest one, and nothing is sent
-abbrev pub AddsRow : List ℕ → ScriptedEnd → ScriptedEnd → Outcome → Type 0
-AddsRow text old new o = (row : Row) × IsRow text row × (o ≡ OfTest []) × (new.end ≡ old.end) × (script_of new.script ≡ with_row row (script_of old.script))
+-- a row, of a text of so many bytes, is the newest one, for which there was room, and nothing is sent
+abbrev pub AddsRow : (Row → Type 0) → ℕ → ScriptedEnd → ScriptedEnd → Outcome → Type 0
+AddsRow IsRow bytes old new o = (row : Row) × IsRow row × (has_room_for_row (script_of old.script) bytes ≡ true) × (o ≡ OfTest []) × (new.end ≡ old.end)
+    × (script_of new.script ≡ with_row row (script_of old.script))
+
+-- nothing has happened, since the text is JSON for no such row, or there is no room for it
+abbrev pub AddsNoRow : (Row → Type 0) → ℕ → ScriptedEnd → ScriptedEnd → Outcome → Type 0
+AddsNoRow IsRow bytes old new o = ((row : Row) → IsRow row → has_room_for_row (script_of old.script) bytes ≡ false) × HasNoEffect old new o
 
 -- whether a byte is a hexadecimal digit
 abbrev pub is_digit : ℕ → Bool
@@ -97,29 +111,37 @@ pub record ReleasesWith (n : ℕ) (text : List ℕ) (h : List Input) (old new : 
   pub released : script_of new.script ≡ without_held n (script_of old.script)
   pub end : new.end ≡ old.end
 
--- these events follow those of the method, and nothing is sent
+-- these events follow those of the method, for which there was room, and nothing is sent
 abbrev pub Follows : List ℕ → List ℕ → ScriptedEnd → ScriptedEnd → Outcome → Type 0
-Follows method events old new o = (ts : List Template) × AreTemplateTexts events ts × (o ≡ OfTest []) × (new.end ≡ old.end)
+Follows method events old new o = (ts : List Template) × AreTemplateTexts events ts
+    × (has_room_for_follower (script_of old.script) (length events) ≡ true) × (o ≡ OfTest []) × (new.end ≡ old.end)
     × (script_of new.script ≡ with_follower (record { method = method; events = ts; bytes = length events }) (script_of old.script))
 
--- more names are known, and nothing is sent
-abbrev pub KnowsMore : ScriptedEnd → ScriptedEnd → Outcome → Type 0
-KnowsMore old new o = (more : List (List ℕ)) × (o ≡ OfTest []) × (new.end ≡ old.end) × (script_of new.script ≡ with_names more (script_of old.script))
+-- whether the words of a text can become known: each is a name or `*`, and there is room for so many
+abbrev pub can_know : List ℕ → Script → Bool
+can_know names script = list_all can_be_known (words names) && has_room_for_names script (length (words names))
+
+-- the words of a text, which can become known, are known, and nothing is sent
+abbrev pub KnowsMore : List ℕ → ScriptedEnd → ScriptedEnd → Outcome → Type 0
+KnowsMore names old new o = (can_know names (script_of old.script) ≡ true) × (o ≡ OfTest []) × (new.end ≡ old.end)
+    × (script_of new.script ≡ with_names (words names) (script_of old.script))
 
 -- What a line brings about, if the remote end stands for the history h before it.
 abbrev pub Brings : Line → List Input → ScriptedEnd → ScriptedEnd → Outcome → Type 0
 -- a step brings about what it is taken as: it is handed on, or a row answers or holds it
 Brings (line.Plain step) h old new o = (t : Taken)
     × Becomes (fate (deeds h) (script_of old.script) step) h step old.end (script_of old.script) new.end (script_of new.script) t × (o ≡ taken_outcome t)
--- a row is added
-Brings (line.Answer row) h old new o = AddsRow row old new o ⊎ HasNoEffect old new o
-Brings (line.Hold row) h old new o = AddsRow row old new o ⊎ HasNoEffect old new o
+-- a row that answers is added, or there is none or no room for it
+Brings (line.Answer text) h old new o = AddsRow (IsAnsweringRow text) (length text) old new o ⊎ AddsNoRow (IsAnsweringRow text) (length text) old new o
+-- a row that holds is added, or there is none or no room for it
+Brings (line.Hold text) h old new o = AddsRow (IsHoldingRow text) (length text) old new o ⊎ AddsNoRow (IsHoldingRow text) (length text) old new o
 -- all rows of a method are removed
 Brings (line.Unanswer method) h old new o =
     (o ≡ OfTest []) × (new.end ≡ old.end) × (script_of new.script ≡ without_method method (script_of old.script))
--- an event goes to the sessions that it reaches
+-- an event goes to the sessions that it reaches, or the text is JSON for none
 Brings (line.Emit text) h old new o =
-    ((e : Event) × IsEventText text e × (o ≡ OfTest (emitted (deeds h) (script_of old.script).named e)) × IsUnchanged old new) ⊎ HasNoEffect old new o
+    ((e : Event) × IsEventText text e × (o ≡ OfTest (emitted (deeds h) (script_of old.script).named e)) × IsUnchanged old new)
+    ⊎ (((e : Event) → IsEventText text e → ⊥) × HasNoEffect old new o)
 -- a string is sent as it is
 Brings (line.Send c text) h old new o = OnOpen c h old new o ((o ≡ OfTest (Text c text ∷ [])) × IsUnchanged old new)
 -- a binary message is sent
@@ -132,9 +154,13 @@ Brings (line.Close c code) h old new o =
     OnOpen c h old new o (((is_close_code code ≡ false) × HasNoEffect old new o)
     ⊎ ((is_close_code code ≡ true) × (o ≡ Closed c code) × StandsFor new.end (Drop c ∷ h)))
 -- a held command is released, or there is none
-Brings (line.Release n) h old new o = Releases n h old new o ⊎ ((reason : List ℕ) × (o ≡ NoEffect reason) × StandsAsBefore old new)
-Brings (line.ReleaseWith n row) h old new o = ReleasesWith n row h old new o ⊎ HasNoEffect old new o
--- events follow others
-Brings (line.On method events) h old new o = Follows method events old new o ⊎ HasNoEffect old new o
--- names become known
-Brings (line.Names names) h old new o = KnowsMore old new o ⊎ HasNoEffect old new o
+Brings (line.Release n) h old new o = Releases n h old new o
+    ⊎ ((held_by n (script_of old.script) ≡ None) × (reason : List ℕ) × (o ≡ NoEffect reason) × StandsAsBefore old new)
+-- a held command is answered, or there is none, or the text is JSON for no answer
+Brings (line.ReleaseWith n row) h old new o = ReleasesWith n row h old new o
+    ⊎ (((held : script.Held) (answer : Answer) → held_by n (script_of old.script) ≡ Some held → IsAnswer row answer → ⊥) × HasNoEffect old new o)
+-- events follow others, or the text is JSON for none, or there is no room for them
+Brings (line.On method events) h old new o = Follows method events old new o
+    ⊎ (((ts : List Template) → AreTemplateTexts events ts → has_room_for_follower (script_of old.script) (length events) ≡ false) × HasNoEffect old new o)
+-- names become known, or they cannot
+Brings (line.Names names) h old new o = KnowsMore names old new o ⊎ ((can_know names (script_of old.script) ≡ false) × HasNoEffect old new o)

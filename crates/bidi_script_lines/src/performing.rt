@@ -1,22 +1,19 @@
 //! Giving a line of a scripted play to a scripted end.
-ghost use Rattle.std.specs.Prelude.{◌≡◌, ◌≤◌, ◌⊎◌, ℕ, List, [], ◌∷◌, length, true, false, IfOk, IfSome, IfNone, OnErr, IsErrOf, map, string_bytes};
+ghost use Rattle.std.specs.Prelude.{◌≡◌, ◌≤◌, ◌⊎◌, ℕ, List, [], ◌∷◌, length, true, false, IfOk, OnOk, IfSome, IfNone, OnErr, IsErrOf, map, string_bytes};
 ghost use Rattle.std.specs.List.{list_all};
 ghost use Rattle.bidi_sessions.specs.Limits.{most_steps};
 ghost use Rattle.bidi_sessions.specs.Step.{Step as Taking};
 ghost use Rattle.bidi_sessions.specs.View.{step_of, sent_of};
 ghost use Rattle.bidi_remote.specs.Machine.History.{Input, Drop as Dropping};
-ghost use Rattle.bidi_remote.specs.Machine.Outcome.{deeds};
 ghost use Rattle.bidi_remote.specs.Machine.Sent.{Text};
-ghost use Rattle.bidi_rows.specs.Rows.{Event};
-ghost use Rattle.bidi_rows.specs.Reading.{IsEventText};
-ghost use Rattle.bidi_scripted.specs.Sending.{emitted};
 ghost use Rattle.bidi_remote.specs.State.Stands.{StandsFor};
 ghost use Rattle.bidi_scripted.specs.Script.{no_script};
 ghost use Rattle.bidi_scripted.specs.View.{script_of};
+ghost use Rattle.bidi_script_lines.specs.ScriptLines as lines;
 ghost use Rattle.bidi_script_lines.specs.ScriptLines.{Plain};
 ghost use Rattle.bidi_script_lines.specs.View.{said_by};
 ghost use Rattle.bidi_script_lines.specs.Outcomes.{OfTest, Bytes, Cut, Closed, NoEffect, outcome_of};
-ghost use Rattle.bidi_script_lines.specs.Performing.{TakesStep, AddsRow, Releases, ReleasesWith, Follows, KnowsMore, HasNoEffect, IsUnchanged, StandsAsBefore, OnOpen, Brings, taken_outcome, is_hex, is_digit, is_close_code};
+ghost use Rattle.bidi_script_lines.specs.Performing.{HasReason, TakesStep, HasNoEffect, IsUnchanged, StandsAsBefore, OnOpen, Brings, taken_outcome, is_hex, is_digit, is_close_code};
 
 use crate::outcome::Outcome;
 use crate::script_line::ScriptLine;
@@ -110,7 +107,7 @@ fn of_taken(taken: Taken) -> Outcome
 
 // Adds a row that answers.
 fn answer(alloc: Global, end: &mut ScriptedEnd, row: &str) -> Result<Outcome, RemoteFault>
-    ensures brings { IfOk result (λ o. AddsRow row.now end.old end.new (outcome_of o) ⊎ HasNoEffect end.old end.new (outcome_of o)) }
+    ensures brings { (h : List Input) → IfOk result (λ o. Brings (lines.Answer row.now) h end.old end.new (outcome_of o)) }
     ensures err { OnErr result (IsUnchanged end.old end.new) }
     ensures worn_out { IsErrOf result RemoteFault.WornOut → ⊥ }
 {
@@ -122,7 +119,7 @@ fn answer(alloc: Global, end: &mut ScriptedEnd, row: &str) -> Result<Outcome, Re
 
 // Adds a row that holds.
 fn hold(alloc: Global, end: &mut ScriptedEnd, row: &str) -> Result<Outcome, RemoteFault>
-    ensures brings { IfOk result (λ o. AddsRow row.now end.old end.new (outcome_of o) ⊎ HasNoEffect end.old end.new (outcome_of o)) }
+    ensures brings { (h : List Input) → IfOk result (λ o. Brings (lines.Hold row.now) h end.old end.new (outcome_of o)) }
     ensures err { OnErr result (IsUnchanged end.old end.new) }
     ensures worn_out { IsErrOf result RemoteFault.WornOut → ⊥ }
 {
@@ -134,8 +131,7 @@ fn hold(alloc: Global, end: &mut ScriptedEnd, row: &str) -> Result<Outcome, Remo
 
 // Hands a held command on.
 fn release(alloc: Global, end: &mut ScriptedEnd, number: JsUint) -> Result<Outcome, RemoteFault>
-    ensures brings { (h : List Input) → StandsFor end.old.end h → IfOk result (λ o. Releases number.value h end.old end.new (outcome_of o)
-        ⊎ ((reason : List ℕ) × (outcome_of o ≡ NoEffect reason) × StandsAsBefore end.old end.new)) }
+    ensures brings { (h : List Input) → StandsFor end.old.end h → IfOk result (λ o. Brings (lines.Release number.value) h end.old end.new (outcome_of o)) }
     ensures err { OnErr result (StandsAsBefore end.old end.new) }
     ensures worn_out { (h : List Input) → StandsFor end.old.end h → IsErrOf result RemoteFault.WornOut → most_steps ≤ length h }
 {
@@ -153,7 +149,7 @@ fn release_with(
     row: &str,
 ) -> Result<Outcome, RemoteFault>
     ensures brings { (h : List Input) → StandsFor end.old.end h
-        → IfOk result (λ o. ReleasesWith number.value row.now h end.old end.new (outcome_of o) ⊎ HasNoEffect end.old end.new (outcome_of o)) }
+        → IfOk result (λ o. Brings (lines.ReleaseWith number.value row.now) h end.old end.new (outcome_of o)) }
     ensures err { OnErr result (IsUnchanged end.old end.new) }
     ensures worn_out { (h : List Input) → StandsFor end.old.end h → IsErrOf result RemoteFault.WornOut → most_steps ≤ length h }
 {
@@ -165,8 +161,7 @@ fn release_with(
 
 // Sends an event.
 fn emit(alloc: Global, end: &ScriptedEnd, event: &str) -> Result<Outcome, RemoteFault>
-    ensures brings { (h : List Input) → StandsFor end.now.end h → IfOk result (λ o. ((e : Event) × IsEventText event.now e
-        × (outcome_of o ≡ OfTest (emitted (deeds h) (script_of end.now.script).named e))) ⊎ ((reason : List ℕ) × (outcome_of o ≡ NoEffect reason))) }
+    ensures brings { (h : List Input) → StandsFor end.now.end h → IfOk result (λ o. Brings (lines.Emit event.now) h end.now end.now (outcome_of o)) }
     ensures worn_out { (h : List Input) → StandsFor end.now.end h → IsErrOf result RemoteFault.WornOut → most_steps ≤ length h }
 {
     match end.emit(event) {
@@ -182,20 +177,19 @@ fn follow(
     method: &str,
     events: &str,
 ) -> Result<Outcome, RemoteFault>
-    ensures brings { IfOk result (λ o. Follows method.now events.now end.old end.new (outcome_of o) ⊎ HasNoEffect end.old end.new (outcome_of o)) }
+    ensures brings { (h : List Input) → IfOk result (λ o. Brings (lines.On method.now events.now) h end.old end.new (outcome_of o)) }
     ensures err { OnErr result (IsUnchanged end.old end.new) }
     ensures worn_out { IsErrOf result RemoteFault.WornOut → ⊥ }
 {
     match end.on(method, events) {
         Ok(()) => Ok(Outcome::Sent(Vec::new(alloc))),
-        Err(ScriptFault::BadRow(RowFault::BadEvents)) => no_effect(alloc, NO_EVENTS),
-        Err(fault) => refused(alloc, fault),
+        Err(fault) => refused_events(alloc, fault),
     }
 }
 
 // Makes names known.
 fn know(alloc: Global, end: &mut ScriptedEnd, names: &str) -> Result<Outcome, RemoteFault>
-    ensures brings { IfOk result (λ o. KnowsMore end.old end.new (outcome_of o) ⊎ HasNoEffect end.old end.new (outcome_of o)) }
+    ensures brings { (h : List Input) → IfOk result (λ o. Brings (lines.Names names.now) h end.old end.new (outcome_of o)) }
     ensures err { OnErr result (IsUnchanged end.old end.new) }
     ensures worn_out { IsErrOf result RemoteFault.WornOut → ⊥ }
 {
@@ -292,12 +286,25 @@ fn close(
 // The outcome of a line that the scripted end refuses.
 fn refused(alloc: Global, fault: ScriptFault) -> Result<Outcome, RemoteFault>
     ensures ok { IfOk result (λ o. (reason : List ℕ) × (outcome_of o ≡ NoEffect reason)) }
+    ensures has_reason { OnOk result (HasReason fault) }
     ensures worn_out { IsErrOf result RemoteFault.WornOut → fault ≡ ScriptFault.WornOut }
 {
     match fault {
         ScriptFault::NoMemory => Err(RemoteFault::NoMemory),
         ScriptFault::WornOut => Err(RemoteFault::WornOut),
         fault => Ok(Outcome::NoEffect(format!(in alloc; "{fault}")?)),
+    }
+}
+
+// The outcome of a line with events that the scripted end refuses.
+fn refused_events(alloc: Global, fault: ScriptFault) -> Result<Outcome, RemoteFault>
+    ensures ok { IfOk result (λ o. (reason : List ℕ) × (outcome_of o ≡ NoEffect reason)) }
+    ensures has_reason { OnOk result (HasReason fault) }
+    ensures worn_out { IsErrOf result RemoteFault.WornOut → fault ≡ ScriptFault.WornOut }
+{
+    match fault {
+        ScriptFault::BadRow(RowFault::BadEvents) => no_effect(alloc, NO_EVENTS),
+        _ => refused(alloc, fault),
     }
 }
 

@@ -1,9 +1,10 @@
 use Rattle.std.proofs.Common.{inl, ap, ◌∙◌}
 use Rattle.bidi_scripted.specs.Script.{held_by}
+use Rattle.bidi_scripted.specs.Faults.{RefusesRelease}
 use Rattle.bidi_scripted.specs.View.{script_of}
 use Rattle.bidi_script_lines.specs.Outcomes.{OfMachine, OfTest}
 use Rattle.bidi_script_lines.specs.Performing.{Releases}
-use Rattle.bidi_script_lines.proofs.PerformLemmas.{there, taken-of_test, taken-of_machine, not-released}
+use Rattle.bidi_script_lines.proofs.PerformLemmas.{there, taken-of_test, taken-of_machine, not-released, no-release}
 use Rattle.bidi_script_lines.proofs.performing.release.Goals as goal
 
 pub returns-in-Ok-clause-brings : goal.returns-in-Ok-clause-brings
@@ -25,4 +26,7 @@ returns-in-Ok-clause-brings c = λ h s.
     })
 
 pub returns-in-Err-clause-brings : goal.returns-in-Err-clause-brings
-returns-in-Err-clause-brings c = λ h s. not-released (Releases c.args.number.value h c.args.end.now c.release.new.self) c.args.end.now c.release.new.self c.refused.result c.refused.ensures.ok c.in-Err.ensures.err
+returns-in-Err-clause-brings c = λ h s.
+    let held = held_by c.args.number.value (script_of c.args.end.now.script) in
+    not-released (Releases c.args.number.value h c.args.end.now c.release.new.self) _ (RefusesRelease held) c.in-Err.fault c.args.end.now c.release.new.self c.refused.result
+    c.refused.ensures.ok c.refused.ensures.has_reason c.in-Err.ensures.refused (no-release held) c.in-Err.ensures.err
