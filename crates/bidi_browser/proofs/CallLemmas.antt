@@ -5,7 +5,6 @@ use Rattle.std.specs.Result.{IsErrAnd}
 use Rattle.bidi_tree.specs.Node.{Node}
 use Rattle.bidi_params.specs.declared.error_code.ErrorCode.{ErrorCode}
 use Rattle.bidi_params.specs.declared.error_code.ErrorCode.TheVariants.{UnsupportedOperation}
-use Rattle.bidi_methods.specs.declared.result_data.ResultData.{ResultData}
 use Rattle.bidi_handles.specs.declared.handle.Ending as declared_ending
 use Rattle.bidi_browser.specs.declared.plan.Edit.{Edit}
 use Rattle.bidi_browser.specs.declared.plan.Plan.{Plan}
@@ -23,6 +22,7 @@ use Rattle.bidi_browser.specs.Runs.{HasReturned, HasRun, IsEnding, call_ending}
 use Rattle.bidi_browser.specs.TableInHand.{ending_seen}
 use Rattle.bidi_handles.specs.Values.{arguments}
 use Rattle.bidi_browser.specs.View.{result_tree}
+use Rattle.bidi_browser.specs.declared.command_result.CommandResult.{CommandResult}
 
 -- ---- how it ends
 
@@ -98,7 +98,7 @@ refused-plans (Err (Code code)) e past moment action is refused = refused code (
 refused-plans (Err NoMemory) e past moment action is refused = tt
 
 -- an action that is answered, and tells of no event
-pub answered-plans : (plan : Plan) (past : List Act) (moment : ℕ) (action : Action) (act : Act) (r : ResultData) (edit : Edit)
+pub answered-plans : (plan : Plan) (past : List Act) (moment : ℕ) (action : Action) (act : Act) (r : CommandResult) (edit : Edit)
     → is_asked action ≡ true → outcome past action ≡ Ok act → Replies (result_tree r) ∷ [] ≡ occurs past moment action act
     → plan.before.items ≡ [] → plan.result ≡ Some r
     → plan.after.items ≡ [] → plan.change.edit ≡ edit → EditMakes edit past act → Plans (Ok plan) past moment action

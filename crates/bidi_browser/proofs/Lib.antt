@@ -3,5 +3,6 @@ pub mod PlanLemmas
 pub mod NavigationLemmas
 pub mod ScriptTableLemmas
 pub mod ScriptLemmas
+pub mod ResultLemmas
 pub mod CallLemmas
 pub mod StandsLemmas

@@ -32,6 +32,7 @@ use Rattle.bidi_browser.specs.Plans.{Plans}
 use Rattle.bidi_contexts.specs.View.{AreWell}
 use Rattle.bidi_contexts.specs.View.{occurrence_of, seen}
 use Rattle.bidi_browser.specs.View.{result_tree}
+use Rattle.bidi_browser.specs.declared.command_result.CommandResult.TheVariants.{Data}
 use Rattle.bidi_contexts.proofs.BirthLemmas.{same-number}
 
 -- ---- where it leads
@@ -183,14 +184,14 @@ told-parted past moment c move wait told xs n all at before after = λ reply.
 -- what plans a navigation
 pub navigation-plans : (plan : Plan) (told : Told) (n : planned.Navigation) (r : ResultData) (past : List Act) (moment c : ℕ) (move : Move)
     (action : Action) → is_asked action ≡ true → outcome past action ≡ Ok (Moved c move)
-    → IsTold told past moment (wait_in action) c move → result_tree r ≡ navigated_result past (led_to past c move) move
+    → IsTold told past moment (wait_in action) c move → result_tree (Data r) ≡ navigated_result past (led_to past c move) move
     → n.context ≡ c → move_of n.to ≡ move
     → n.realm ≡ next_number past Realm → Leads (entries_of past c) move
-    → plan.before ≡ told.before → plan.result ≡ Some r → plan.after ≡ told.after → plan.change.edit ≡ Navigate n → Plans (Ok plan) past moment action
+    → plan.before ≡ told.before → plan.result ≡ Some (Data r) → plan.after ≡ told.after → plan.change.edit ≡ Navigate n → Plans (Ok plan) past moment action
 navigation-plans plan told n r past moment c move action asked done is result at to realm leads before reply after change = (
   Moved c move,
   done,
-  rw (before, reply, after) (is (Replies (result_tree r)) ∙ ap (λ t. navigating past moment (wait_in action) c move (Replies t)) result),
+  rw (before, reply, after) (is (Replies (result_tree (Data r))) ∙ ap (λ t. navigating past moment (wait_in action) c move (Replies t)) result),
   rw (reply, asked) refl,
   rw change (
     ap₂ (λ k m. Moved k m) (sym at) (sym to),

@@ -39,6 +39,8 @@ use Rattle.bidi_browser.specs.Plans.{Plans, Makes, IsWellResult, IsWellTold, rep
 use Rattle.bidi_contexts.specs.View.{AreWell}
 use Rattle.bidi_contexts.specs.View.{seen}
 use Rattle.bidi_browser.specs.View.{result_tree}
+use Rattle.bidi_browser.specs.declared.command_result.CommandResult.{CommandResult}
+use Rattle.bidi_browser.specs.declared.command_result.CommandResult.TheVariants.{Data}
 use Rattle.bidi_contexts.proofs.BirthLemmas.{row-made, row-framed}
 use Rattle.bidi_contexts.proofs.RowLemmas.{oldest-window}
 
@@ -47,15 +49,15 @@ use Rattle.bidi_contexts.proofs.RowLemmas.{oldest-window}
 -- its result, and nothing else; the tables stay
 pub kept-plans : (plan : Plan) (past : List Act) (moment : ℕ) (action : Action) (act : Act) (r : ResultData)
     → is_asked action ≡ true → leaves_tables act ≡ true → outcome past action ≡ Ok act
-    → Replies (result_tree r) ∷ [] ≡ occurs past moment action act → plan.before.items ≡ []
-    → plan.result ≡ Some r → plan.after.items ≡ [] → plan.change.edit ≡ Keep → Plans (Ok plan) past moment action
+    → Replies (result_tree (Data r)) ∷ [] ≡ occurs past moment action act → plan.before.items ≡ []
+    → plan.result ≡ Some (Data r) → plan.after.items ≡ [] → plan.change.edit ≡ Keep → Plans (Ok plan) past moment action
 kept-plans plan past moment action act r asked leaves checked told before reply after change =
     (act, checked, rw (before, reply, after) told, rw (reply, asked) refl, rw change leaves, λ unasked. after)
 
 -- what only looks has its result
 pub looked-plans : (plan : Plan) (past : List Act) (moment : ℕ) (action : Action) (r : ResultData)
-    → is_asked action ≡ true → outcome past action ≡ Ok Looked → Replies (result_tree r) ∷ [] ≡ occurs past moment action Looked
-    → plan.before.items ≡ [] → plan.result ≡ Some r → plan.after.items ≡ [] → plan.change.edit ≡ Keep → Plans (Ok plan) past moment action
+    → is_asked action ≡ true → outcome past action ≡ Ok Looked → Replies (result_tree (Data r)) ∷ [] ≡ occurs past moment action Looked
+    → plan.before.items ≡ [] → plan.result ≡ Some (Data r) → plan.after.items ≡ [] → plan.change.edit ≡ Keep → Plans (Ok plan) past moment action
 looked-plans plan past moment action r asked = kept-plans plan past moment action Looked r asked refl
 
 -- the context that is asked for
@@ -121,11 +123,11 @@ windows-flat see true (x ∷ xs) =
     omega (arith, flat, rest)
 
 -- a result of which a message can be made
-pub result-well : (r : ResultData) (t : Node) → results.ghosts.payload.well r → result_tree r ≡ t → levels t ≤ 61 → IsWellResult r
+pub result-well : (r : ResultData) (t : Node) → results.ghosts.payload.well r → result_tree (Data r) ≡ t → levels t ≤ 61 → IsWellResult (Data r)
 result-well r t well is few = (well, subst (λ u. levels u ≤ 61) (sym is) few)
 
 -- a plan without events, with such a result
-pub told-well : (plan : Plan) (r : ResultData) → plan.before.items ≡ [] → plan.result ≡ Some r → plan.after.items ≡ [] → IsWellResult r → IsWellTold plan
+pub told-well : (plan : Plan) (r : ResultData) → plan.before.items ≡ [] → plan.result ≡ Some (Data r) → plan.after.items ≡ [] → IsWellResult (Data r) → IsWellTold plan
 told-well plan r before reply after well = record {
   before = subst AreWell (sym before) tt;
   result = subst (λ o. IfSome o IsWellResult) (sym reply) well;
@@ -147,7 +149,7 @@ born-told : (past : List Act) (act : Act) (row : ContextRow) (os : List Occurren
 born-told past act row os is told = ap (map Happens) (told ∙ ap (λ r. created_in r ∷ realm_created_in r ∷ []) is)
 
 -- a birth that somebody asked for
-pub asked-birth : (past : List Act) (act : Act) (row : ContextRow) (before after : List in_hand.Occurrence) (reply : Option ResultData) (t : Node)
+pub asked-birth : (past : List Act) (act : Act) (row : ContextRow) (before after : List in_hand.Occurrence) (reply : Option CommandResult) (t : Node)
     → row ≡ row_at (act ∷ past) (next_number past Context)
     → seen before ≡ created_in row ∷ realm_created_in row ∷ [] → reply_in reply ≡ Replies t ∷ [] → after ≡ []
     → map Happens (seen before) ++ (reply_in reply ++ map Happens (seen after)) ≡ birth past act ++ Replies t ∷ []
@@ -265,7 +267,7 @@ window-stands past o window is found =
 -- ---- removals
 
 -- a removal that somebody asked for
-pub asked-removal : (gone : List Occurrence) (before after : List in_hand.Occurrence) (reply : Option ResultData)
+pub asked-removal : (gone : List Occurrence) (before after : List in_hand.Occurrence) (reply : Option CommandResult)
     → seen before ≡ gone → reply_in reply ≡ Replies nothing ∷ [] → after ≡ []
     → map Happens (seen before) ++ (reply_in reply ++ map Happens (seen after)) ≡ map Happens gone ++ Replies nothing ∷ []
 asked-removal gone before after reply told replied none = ap₂ (λ os xs. map Happens os ++ xs) told (ap₂ (λ xs os. xs ++ map Happens (seen os)) replied none)

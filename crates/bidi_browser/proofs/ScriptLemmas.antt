@@ -32,6 +32,7 @@ use Rattle.bidi_browser.specs.Occurs.{Replies, occurs}
 use Rattle.bidi_contexts.specs.Outcome.{context_named, realm_targeted, outcome}
 use Rattle.bidi_browser.specs.Plans.{Plans}
 use Rattle.bidi_browser.specs.View.{result_tree}
+use Rattle.bidi_browser.specs.declared.command_result.CommandResult.TheVariants.{Data}
 use Rattle.bidi_contexts.proofs.AcceptedLemmas.{find-passes, named-alive}
 use Rattle.bidi_contexts.specs.ContextRows as rows
 use Rattle.bidi_contexts.specs.ContextRows.{row_at}
@@ -64,9 +65,9 @@ context-targeted past id sandbox c named empty = (named-alive past id c named, r
 -- what plans that handles are held no longer
 pub disown-plans : (plan : Plan) (past : List Act) (moment : ℕ) (action : Action) (c : ℕ) (ids : List (List ℕ)) (r : ResultData) (number : ℕ)
     (numbers : Vec ℕ Global) → is_asked action ≡ true → is_alive past c ≡ true → outcome past action ≡ Ok (Disowned (realm_of past c) ids)
-    → Replies (result_tree r) ∷ [] ≡ occurs past moment action (Disowned (realm_of past c) ids)
+    → Replies (result_tree (Data r)) ∷ [] ≡ occurs past moment action (Disowned (realm_of past c) ids)
     → number ≡ c → numbers.items ≡ map (λ h. h.0) (filter (λ h. has_id ids h.0) (handles_of past (realm_of past c)))
-    → plan.before.items ≡ [] → plan.result ≡ Some r → plan.after.items ≡ [] → plan.change.edit ≡ Disown number numbers → Plans (Ok plan) past moment action
+    → plan.before.items ≡ [] → plan.result ≡ Some (Data r) → plan.after.items ≡ [] → plan.change.edit ≡ Disown number numbers → Plans (Ok plan) past moment action
 disown-plans plan past moment action c ids r number numbers asked alive checked told at gone before reply after change = (
   Disowned (realm_of past c) ids,
   checked,

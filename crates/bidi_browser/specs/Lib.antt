@@ -1,5 +1,6 @@
 pub mod Occurs
 pub mod View
+pub mod Results
 pub mod Found
 pub mod TableInHand
 pub mod Asked

@@ -3,7 +3,8 @@ use Rattle.std.specs.Prelude.{suc, ◌≡◌, ◌≤◌, ℕ, Bool, true, false,
 use Rattle.std.specs.Prelude.{Option, Some, None, Result, Ok, Err, is_some, IfSome, ⊤, string_bytes}
 use Rattle.bidi_tree.specs.Node.{levels}
 use Rattle.bidi_methods.specs.declared.method.Method.{Method}
-use Rattle.bidi_methods.specs.declared.result_data.ResultData.{ResultData}
+use Rattle.bidi_browser.specs.declared.command_result.CommandResult.{CommandResult}
+use Rattle.bidi_browser.specs.declared.command_result.CommandResult.TheVariants.{Data, Text}
 use Rattle.bidi_methods.specs.contracts.event_data.EventDataPayloadEventName.TheImpl as events
 use Rattle.bidi_methods.specs.contracts.result_data.ResultDataPayloadMethod.TheImpl as results
 use Rattle.bidi_handles.specs.declared.id.IdKind.TheVariants.{Context, Handle, Window}
@@ -27,8 +28,8 @@ use Rattle.bidi_contexts.specs.HistoryInHand.{move_of}
 use Rattle.bidi_browser.specs.TableInHand.{row_seen, HasRoomForRow}
 use Rattle.bidi_contexts.specs.Tables.{HasRoomForOne, HasRoomIn, HasRoomForHandle, HasRoomForUser, IsNavigation}
 use Rattle.bidi_contexts.specs.View.{AreWell, seen}
-use Rattle.bidi_browser.specs.View.{result_tree}
-use Rattle.bidi_shape.specs.Limits.{most_levels}
+use Rattle.bidi_browser.specs.View.{result_tree, result_method, text_tree}
+use Rattle.bidi_browser.specs.Results.{most_result_levels, IsResultText}
 
 -- ---- room
 
@@ -48,7 +49,7 @@ HasRoom browser change = EditHasRoom browser change.edit
 -- ---- what a plan tells
 
 -- The reply, if a client asked for one.
-abbrev pub reply_in : Option ResultData → List Item
+abbrev pub reply_in : Option CommandResult → List Item
 reply_in None = []
 reply_in (Some r) = Replies (result_tree r) ∷ []
 
@@ -56,9 +57,10 @@ reply_in (Some r) = Replies (result_tree r) ∷ []
 abbrev pub items_in : Plan → List Item
 items_in p = map Happens (seen p.before.items) ++ (reply_in p.result ++ map Happens (seen p.after.items))
 
--- A response can be made of the result: it is well formed and has at most 61 levels, since the members of a response have at most 60.
-abbrev pub IsWellResult : ResultData → Type 0
-IsWellResult r = results.ghosts.payload.well r × (levels (result_tree r) ≤ suc most_levels)
+-- A response can be made of the result: its data are well formed and have few levels, or its text is that of such a result.
+abbrev pub IsWellResult : CommandResult → Type 0
+IsWellResult (Data r) = results.ghosts.payload.well r × (levels (result_tree (Data r)) ≤ most_result_levels)
+IsWellResult (Text r) = IsResultText r.method (string_bytes r.text) (text_tree r)
 
 -- A message can be made of each event and of the result.
 pub record IsWellTold (p : Plan) : Type 0 where
@@ -115,5 +117,5 @@ IsWellPlanned (Err refusal) = ⊤
 
 -- If the plan has a result, it is of the method.
 abbrev pub HasResultOf : Method → Result Plan Refusal → Type 0
-HasResultOf method (Ok plan) = IfSome plan.result (λ r. results.ghosts.payload.kind r ≡ method)
+HasResultOf method (Ok plan) = IfSome plan.result (λ r. result_method r ≡ method)
 HasResultOf method (Err refusal) = ⊤

@@ -3,7 +3,6 @@ use Rattle.std.specs.Prelude.{◌≡◌, ℕ, Bool, true, false, ◌&&◌, nat_l
 use Rattle.bidi_tree.specs.Node.{Node, no_members}
 use Rattle.bidi_params.specs.declared.error_code.ErrorCode.{ErrorCode}
 use Rattle.bidi_params.specs.declared.error_code.ErrorCode.TheVariants.{UnsupportedOperation, UnknownError}
-use Rattle.bidi_scripts.specs.contracts.evaluate_result.EvaluateResultShape.TheImpl as results
 use Rattle.bidi_handles.specs.declared.handle.Ending as declared_ending
 use Rattle.bidi_handles.specs.declared.id.IdKind.TheVariants.{Handle, Realm}
 use Rattle.bidi_handles.specs.declared.refusal.Refusal.{Refusal}
@@ -18,6 +17,7 @@ use Rattle.bidi_browser.specs.Plans.{EditMakes}
 use Rattle.bidi_contexts.specs.Limits.{most_handles}
 use Rattle.bidi_contexts.specs.Realms.{realm_of, row_of, value_of, handles_of, held_value}
 use Rattle.bidi_browser.specs.TableInHand.{ending_seen}
+use Rattle.bidi_browser.specs.View.{text_tree}
 use Rattle.bidi_handles.specs.Values.{arguments, takes_handle}
 
 -- A script of the text ends so with these arguments; or the table has no row for it; or an allocation failed.
@@ -45,16 +45,24 @@ abbrev pub IsNextHandle : Result ℕ ErrorCode → List Act → ℕ → Type 0
 IsNextHandle (Ok n) past r = (nat_lt (length (handles_of past r)) most_handles ≡ true) × (n ≡ next_number past Handle)
 IsNextHandle (Err code) past r = (nat_lt (length (handles_of past r)) most_handles ≡ false) × (code ≡ UnknownError)
 
--- The result of a script that ended in a realm, with its value as it is shown.
-abbrev pub result_told : ℕ → Ending → Node → Node
-result_told r (Returned value) shown = mapped (
+-- The result of a script that returned a value in a realm, as the value is shown.
+abbrev pub success_tree : Node → Node → Node
+success_tree realm shown = mapped (
     "type" being word "success" and
     "result" being shown and
-    "realm" being id_tree Realm r and no_members)
-result_told r (Threw value) shown = mapped (
+    "realm" being realm and no_members)
+
+-- The result of a script that threw a value in a realm, as the value is shown.
+abbrev pub exception_tree : Node → Node → Node
+exception_tree realm shown = mapped (
     "type" being word "exception" and
     "exceptionDetails" being exception_details shown and
-    "realm" being id_tree Realm r and no_members)
+    "realm" being realm and no_members)
+
+-- The result of a script that ended in a realm, with its value as it is shown.
+abbrev pub result_told : ℕ → Ending → Node → Node
+result_told r (Returned value) shown = success_tree (id_tree Realm r) shown
+result_told r (Threw value) shown = exception_tree (id_tree Realm r) shown
 
 -- The script's act, its result and the change that it makes; or the code of its check; or an allocation failed.
 abbrev pub HasRun : Result RanInHand Refusal → List Act → ℕ → Bool → Option ℕ → Ending → Type 0
@@ -62,6 +70,6 @@ HasRun (Ok ran) past c owned depth ending =
     let r = realm_of past c in
     let held = owned && takes_handle (value_of ending) in
     (ending_outcome past r owned ending ≡ Ok (Ran r ending held))
-    × (results.ghosts.shape.tree_of ran.result ≡ script_result past r depth ending held) × EditMakes ran.edit past (Ran r ending held)
+    × (text_tree ran.result ≡ script_result past r depth ending held) × EditMakes ran.edit past (Ran r ending held)
 HasRun (Err (Code code)) past c owned depth ending = ending_outcome past (realm_of past c) owned ending ≡ Err code
 HasRun (Err NoMemory) past c owned depth ending = ⊤

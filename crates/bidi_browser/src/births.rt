@@ -19,6 +19,7 @@ ghost use Rattle.bidi_browser.specs.View.{result_method, result_tree};
 ghost use Rattle.bidi_contexts.specs.View.{seen};
 
 use crate::browser::Browser;
+use crate::command_result::CommandResult;
 use crate::looking::{answered, context_named, top_if_named};
 use crate::plan::{Change, Edit, Plan};
 use bidi_contexts::{
@@ -181,17 +182,18 @@ fn births(alloc: Global, context: &Context) -> Result<Vec<Occurrence>, AllocErro
 }
 
 // The result of `browsingContext.create`: the id of the new context.
-fn created(alloc: Global, number: u64) -> Result<ResultData, AllocError>
+fn created(alloc: Global, number: u64) -> Result<CommandResult, AllocError>
     requires { number < 2 ^ 48 }
     ensures tree { IfOk result (λ r. result_tree r ≡ mapped ("context" being id_tree IdKind.Context number and no_members)) }
     ensures well { IfOk result IsWellResult }
     ensures of_method { IfOk result (λ r. result_method r ≡ Method.BrowsingContextCreate) }
 {
     let context = id_text(alloc, IdKind::Context, 0, number)?;
-    Ok(ResultData::BrowsingContextCreate(CreateResult {
+    let result = CreateResult {
         context,
         ext: Ext::empty(alloc),
-    }))
+    };
+    Ok(CommandResult::Data(ResultData::BrowsingContextCreate(result)))
 }
 
 /// Plans a new user context.
@@ -206,5 +208,6 @@ pub(crate) fn plan_create_user(browser: &Browser) -> Result<Plan, Refusal>
 {
     let number = browser.users.next()?;
     let result = ResultData::BrowserCreateUserContext(user_info(browser.alloc, number)?);
+    let result = CommandResult::Data(result);
     Ok(answered(browser.alloc, result, Edit::AddUser))
 }

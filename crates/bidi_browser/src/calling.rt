@@ -13,20 +13,22 @@ ghost use Rattle.bidi_browser.specs.TableInHand.{ending_seen};
 ghost use Rattle.bidi_handles.specs.ValuesInHand.{local_tree};
 
 use crate::browser::Browser;
+use crate::command_result::CommandResult;
 use crate::looking::answered;
 use crate::plan::Plan;
 use crate::scripts::{Ran, ending_of, is_owned, object_depth, run, targeted};
 use bidi_contexts::Context;
 use bidi_handles::{Ending, Refusal, check_arguments, check_this};
-use bidi_methods::{Method, ResultData};
+use bidi_methods::Method;
 use bidi_scripts::CallFunctionParameters;
 use bidi_values::LocalValue;
 
 /// Plans the call of a function in the realm of a target. The script table has its outcome.
 ///
 /// Costs an outline of each argument and of `this`, and a block of memory for the sizes of the arguments; a value
-/// that a handle holds is not measured again. Only an argument that the function returns is built, with copies of
-/// the values of its handles, and it is not measured a second time.
+/// that a handle holds is not measured again. Only an argument that the function returns is built and written, with
+/// copies of the values of its handles, and it is not measured a second time; if it is a handle itself, it shares the
+/// value.
 ///
 /// # Errors
 /// The first that holds:
@@ -47,9 +49,9 @@ pub(crate) fn plan_call_function(
     let ending = called(browser, context, params)?;
     let depth = object_depth(&params.serialization_options);
     let owned = is_owned(params.result_ownership);
-    let Ran { result, edit } = run(browser, context, ending, owned, depth)?;
-    let result = ResultData::ScriptCallFunction(result);
-    Ok(answered(browser.alloc, result, edit))
+    let method = Method::ScriptCallFunction;
+    let Ran { result, edit } = run(browser, context, method, ending, owned, depth)?;
+    Ok(answered(browser.alloc, CommandResult::Text(result), edit))
 }
 
 // How the function ends. Its arguments and `this` are checked before its row is looked up.

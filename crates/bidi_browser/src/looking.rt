@@ -15,8 +15,10 @@ ghost use Rattle.bidi_contexts.specs.Outcome.{context_named, looked_at, top_name
 ghost use Rattle.bidi_browser.specs.Plans.{Plans, HasResultOf, IsWellPlanned};
 ghost use Rattle.bidi_contexts.specs.Tables.{IsTableOf};
 ghost use Rattle.bidi_browser.specs.Stands.{StandsFor};
+ghost use Rattle.bidi_browser.specs.declared.command_result.CommandResult.TheVariants as CommandResult;
 
 use crate::browser::Browser;
+use crate::command_result::CommandResult;
 use crate::plan::{Change, Edit, Plan};
 use bidi_contexts::{Context, Contexts};
 use bidi_handles::Refusal;
@@ -219,15 +221,15 @@ pub(crate) fn plan_get_users(browser: &Browser) -> Result<Plan, Refusal>
 /// The plan of a command that changes nothing: its result alone.
 pub(crate) fn looked(alloc: Global, outcome: ResultData) -> Plan
     ensures before { result.before.items ≡ [] }
-    ensures outcome { result.result ≡ Some outcome }
+    ensures outcome { result.result ≡ Some (CommandResult.Data outcome) }
     ensures after { result.after.items ≡ [] }
     ensures change { result.change.edit ≡ Edit.Keep }
 {
-    answered(alloc, outcome, Edit::Keep)
+    answered(alloc, CommandResult::Data(outcome), Edit::Keep)
 }
 
 /// The plan of a command that has a result and a change, and no events. Takes no memory.
-pub(crate) fn answered(alloc: Global, outcome: ResultData, edit: Edit) -> Plan
+pub(crate) fn answered(alloc: Global, outcome: CommandResult, edit: Edit) -> Plan
     ensures before { result.before.items ≡ [] }
     ensures outcome { result.result ≡ Some outcome }
     ensures after { result.after.items ≡ [] }

@@ -11,10 +11,12 @@ ghost use Rattle.bidi_contexts.specs.View.{AreWell};
 ghost use Rattle.bidi_contexts.specs.Tables.{HasIds};
 ghost use Rattle.bidi_browser.specs.Plans.{Plans, HasResultOf, IsWellPlanned};
 ghost use Rattle.bidi_browser.specs.Stands.{StandsFor};
+ghost use Rattle.bidi_browser.specs.declared.command_result.CommandResult.TheVariants as CommandResult;
 ghost use Rattle.bidi_contexts.specs.Urls.{url_text};
 ghost use Rattle.bidi_contexts.specs.View.{seen};
 
 use crate::browser::Browser;
+use crate::command_result::CommandResult;
 use crate::looking::{context_named, nothing, top_named};
 use crate::numbers::Numbers;
 use crate::plan::{Change, Edit, Plan};
@@ -139,14 +141,14 @@ pub(crate) fn plan_traverse_history(
 // The plan of a navigation. Takes no memory.
 fn planned(told: Told, navigation: Navigation, outcome: ResultData) -> Plan
     ensures before { result.before ≡ told.before }
-    ensures outcome { result.result ≡ Some outcome }
+    ensures outcome { result.result ≡ Some (CommandResult.Data outcome) }
     ensures after { result.after ≡ told.after }
     ensures change { result.change.edit ≡ Edit.Navigate navigation }
 {
     let Told { before, after } = told;
     Plan {
         before,
-        result: Some(outcome),
+        result: Some(CommandResult::Data(outcome)),
         after,
         change: Change {
             edit: Edit::Navigate(navigation),

@@ -1,8 +1,8 @@
 //! What an action does, worked out before anything is changed.
+use crate::command_result::CommandResult;
 use crate::script_table::ScriptRow;
 use bidi_contexts::{Context, Navigation, Occurrence};
 use bidi_handles::Handle;
-use bidi_methods::ResultData;
 
 /// What an accepted action does: its events, its result and its change. Nothing has changed until the change
 /// is given to `Browser::apply`; a plan that is dropped has no effect.
@@ -10,7 +10,7 @@ pub struct Plan {
     /// The events to send before the reply.
     pub before: Vec<Occurrence>,
     /// The result to reply with; `None` for a step of a page, which has no reply.
-    pub result: Option<ResultData>,
+    pub result: Option<CommandResult>,
     /// The events to send after the reply. Without a reply there are none.
     pub after: Vec<Occurrence>,
     /// The change, for `Browser::reserve` and then `Browser::apply`.

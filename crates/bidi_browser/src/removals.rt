@@ -6,6 +6,7 @@ ghost use Rattle.bidi_browser.specs.Plans.{Plans, HasResultOf, IsWellPlanned};
 ghost use Rattle.bidi_browser.specs.Stands.{StandsFor};
 
 use crate::browser::Browser;
+use crate::command_result::CommandResult;
 use crate::looking::{context_named, nothing, top_named};
 use crate::plan::{Change, Edit, Plan};
 use bidi_contexts::{DEFAULT_USER_ID, removal, removal_of_user};
@@ -30,7 +31,7 @@ pub(crate) fn plan_close(browser: &Browser, context: &str) -> Result<Plan, Refus
     let result = ResultData::BrowsingContextClose(nothing(browser.alloc));
     Ok(Plan {
         before,
-        result: Some(result),
+        result: Some(CommandResult::Data(result)),
         after: Vec::new(browser.alloc),
         change: Change {
             edit: Edit::Remove(context.number()),
@@ -86,7 +87,7 @@ pub(crate) fn plan_remove_user(browser: &Browser, id: &str) -> Result<Plan, Refu
     let result = ResultData::BrowserRemoveUserContext(nothing(browser.alloc));
     Ok(Plan {
         before,
-        result: Some(result),
+        result: Some(CommandResult::Data(result)),
         after: Vec::new(browser.alloc),
         change: Change {
             edit: Edit::RemoveUser(user),

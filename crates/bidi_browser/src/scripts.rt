@@ -1,5 +1,5 @@
 //! Plans of `script.evaluate` and `script.disown`, and what an evaluation and a call have in common.
-ghost use Rattle.std.specs.Prelude.{◌≡◌, ◌≤◌, ◌<◌, ◌^◌, ℕ, List, [], true, Ok, IfOk, IfErr, bytes_eq, map, not, option_map, slice_get, string_bytes, unwrap_or};
+ghost use Rattle.std.specs.Prelude.{◌≡◌, ◌<◌, ◌^◌, ℕ, List, [], true, Ok, IfOk, IfErr, bytes_eq, map, not, option_map, slice_get, string_bytes, unwrap_or};
 ghost use Rattle.bidi_contexts.specs.Acts.{Act};
 ghost use Rattle.bidi_contexts.specs.Actions as asked;
 ghost use Rattle.bidi_browser.specs.Asked.{disown_asked, evaluate_asked, is_owned, object_depth, target_of};
@@ -11,15 +11,18 @@ ghost use Rattle.bidi_browser.specs.TableInHand.{ending_seen};
 ghost use Rattle.bidi_handles.specs.Resolves.{stands_for};
 ghost use Rattle.bidi_handles.specs.ValuesInHand.{held_tree};
 ghost use Rattle.bidi_handles.specs.declared.refusal.Refusal.TheVariants as refused;
-ghost use Rattle.bidi_tree.specs.Node.{levels};
+ghost use Rattle.bidi_methods.specs.Method.{result_of};
+ghost use Rattle.bidi_shape.specs.Name.{evaluate_result};
 ghost use Rattle.bidi_browser.specs.Found.{IsTargeted};
 ghost use Rattle.bidi_contexts.specs.Outcome.{realm_targeted, undefined};
 ghost use Rattle.bidi_contexts.specs.Tables.{HasIds};
-ghost use Rattle.bidi_browser.specs.Plans.{Plans, HasResultOf, IsWellPlanned};
+ghost use Rattle.bidi_browser.specs.Plans.{Plans, HasResultOf, IsWellPlanned, IsWellResult};
+ghost use Rattle.bidi_browser.specs.declared.command_result.CommandResult.TheVariants as Written;
 ghost use Rattle.bidi_contexts.specs.Tables.{IsTableOf};
 ghost use Rattle.bidi_browser.specs.Stands.{StandsFor};
 
 use crate::browser::Browser;
+use crate::command_result::{CommandResult, ResultText};
 use crate::looking::{answered, context_named, nothing};
 use crate::plan::{Edit, Plan};
 use crate::script_table::ScriptRow;
@@ -30,10 +33,7 @@ use bidi_handles::{
 };
 use bidi_methods::{Method, ResultData};
 use bidi_params::ErrorCode;
-use bidi_scripts::{
-    DisownParameters, EvaluateParameters, EvaluateResult, Ownership, SerializationOptions, Target,
-};
-use bidi_shape::Shape;
+use bidi_scripts::{DisownParameters, EvaluateParameters, Ownership, SerializationOptions, Target};
 use bidi_tree::JsUint;
 use bidi_values::{Primitive, RemotePlain, RemoteValue};
 use std::alloc::{AllocError, Global};
@@ -45,7 +45,7 @@ const MOST_HANDLES: usize = 1000;
 /// What running a script gives.
 pub(crate) struct Ran {
     /// The result of the command.
-    pub result: EvaluateResult,
+    pub result: ResultText,
     /// The change: a new handle, or nothing.
     pub edit: Edit,
 }
@@ -67,8 +67,15 @@ pub(crate) fn plan_evaluate(browser: &Browser, params: &EvaluateParameters) -> R
     let ending = evaluated(browser, &params.expression)?;
     let depth = object_depth(&params.serialization_options);
     let owned = is_owned(params.result_ownership);
-    let Ran { result, edit } = run(browser, context, ending, owned, depth)?;
-    Ok(answered(browser.alloc, ResultData::ScriptEvaluate(result), edit))
+    let Ran { result, edit } = run(
+        browser,
+        context,
+        Method::ScriptEvaluate,
+        ending,
+        owned,
+        depth,
+    )?;
+    Ok(answered(browser.alloc, CommandResult::Text(result), edit))
 }
 
 /// Whether the result is to get a handle: where `resultOwnership` is `root`. Absent, it is `none`.
@@ -166,24 +173,40 @@ fn undefined(alloc: Global) -> Result<Rc<HeldValue>, Refusal>
 pub(crate) fn run(
     browser: &Browser,
     context: &Context,
+    method: Method,
     ending: Ending,
     owned: bool,
     depth: Option<JsUint>,
 ) -> Result<Ran, Refusal>
+    requires { result_of method ≡ evaluate_result }
     ensures ran { (past : List Act) (c : ℕ) → StandsFor browser.now past
         → HasIds past → is_alive past c ≡ true → row_of context.now ≡ row_at past c → HasRun result past c owned (option_map (λ d. d.value) depth) (ending_seen ending) }
-    ensures well { IfOk result (λ ran. ⟦<EvaluateResult as Shape>⟧.shape.well ran.result
-        × (levels (⟦<EvaluateResult as Shape>⟧.shape.tree_of ran.result) ≤ 61)) }
+    ensures well { IfOk result (λ ran. IsWellResult (Written.Text ran.result)) }
+    ensures of_method { IfOk result (λ ran. ran.result.method ≡ method) }
 {
     if !owned || !takes_handle(&value_of(&ending).value) {
-        let result = result_of_ending(browser.alloc, context.realm(), &ending, depth, None)?;
+        let result = result_of_ending(
+            browser.alloc,
+            method,
+            context.realm(),
+            &ending,
+            depth,
+            None,
+        )?;
         return Ok(Ran {
             result,
             edit: Edit::Keep,
         });
     }
     let number = next_handle(browser, context)?;
-    let result = result_of_ending(browser.alloc, context.realm(), &ending, depth, Some(number))?;
+    let result = result_of_ending(
+        browser.alloc,
+        method,
+        context.realm(),
+        &ending,
+        depth,
+        Some(number),
+    )?;
     let handle = Handle {
         number,
         value: into_value(ending),
@@ -245,7 +268,7 @@ pub(crate) fn plan_disown(browser: &Browser, params: &DisownParameters) -> Resul
         .numbers_of(browser.alloc, &params.handles)?;
     let result = ResultData::ScriptDisown(nothing(browser.alloc));
     let edit = Edit::Disown(context.number(), numbers);
-    Ok(answered(browser.alloc, result, edit))
+    Ok(answered(browser.alloc, CommandResult::Data(result), edit))
 }
 
 /// The context in whose realm the scripts of a target run.

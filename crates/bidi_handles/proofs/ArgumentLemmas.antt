@@ -2,10 +2,13 @@
 use Rattle.std.proofs.Common.{◌≡◌, ◌∙◌, ◌<◌, ◌≤◌, ◌+◌, ℕ, Bool, true, false, List, [], ◌∷◌, ◌++◌, drop, get_or, length, map, append-nil}
 use Rattle.std.proofs.Common.{Result, Ok, Err, Vec, Global, IfErr, refl, sym, ap, subst, arith}
 use Rattle.std.specs.Prelude.{◌&&◌, nat_le}
-use Rattle.std.specs.Result.{IsErrAnd, IsOkAnd}
+use Rattle.std.specs.Result.{IsErrAnd, IsOkAnd, result_unwrap_or}
+use Rattle.std.specs.Prelude.{Option, Some, None, IfSome}
+use Rattle.std.specs.Borrow.{Bor}
+use Rattle.std.specs.declared.rc.Rc.{Rc}
 use Rattle.std.proofs.lemmas.Bool.Decides.{nat_tests}
 use Rattle.std.proofs.lemmas.List.{map-append, drop_more, drop_all}
-use Rattle.bidi_tree.specs.Node.{Node, levels}
+use Rattle.bidi_tree.specs.Node.{Node, null, levels}
 use Rattle.bidi_tree.specs.Text.{compact_text}
 use Rattle.bidi_params.specs.declared.error_code.ErrorCode.{ErrorCode}
 use Rattle.bidi_params.specs.declared.error_code.ErrorCode.TheVariants.{UnknownError}
@@ -17,9 +20,12 @@ use Rattle.bidi_handles.specs.declared.argument.Argument.{Argument}
 use Rattle.bidi_handles.specs.declared.refusal.Refusal.{Refusal}
 use Rattle.bidi_handles.specs.declared.refusal.Refusal.TheVariants.{Code, NoMemory}
 use Rattle.bidi_handles.specs.Checks.{◌>>=◌, need}
+use Rattle.bidi_handles.specs.Handles.{values_in}
+use Rattle.bidi_handles.specs.Sizes.{size_of}
+use Rattle.bidi_handles.specs.declared.handle.HeldValue.{HeldValue}
 use Rattle.bidi_handles.specs.Resolves.{Gives, stands_for}
 use Rattle.bidi_handles.specs.Values.{Held, resolved, argument, arguments}
-use Rattle.bidi_handles.specs.ValuesInHand.{local_tree}
+use Rattle.bidi_handles.specs.ValuesInHand.{local_tree, shared_tree}
 
 -- ---- one by one
 
@@ -110,3 +116,12 @@ no-code view held t NoMemory P passes gives = refl
 pub for-memory : {A : Type 0} (r : Result A Refusal) (e : Refusal) → IsErrAnd r (λ f. f ≡ e) → e ≡ NoMemory → IfErr r (λ f. f ≡ NoMemory)
 for-memory (Ok x) e is none = absurd is
 for-memory (Err f) e is none = is ∙ none
+
+-- an argument that resolves to the value of a handle
+pub handle-given : (a : Argument) (r : Option (Bor (Rc HeldValue Global))) (t : Node) → local_tree a.value.now ≡ t
+    → IfSome r (λ h. resolved (values_in a.handles.now) t ≡ Ok (shared_tree h.now)) → IfSome r (λ h. shared_tree h.now ≡ stands_for a)
+handle-given a None t of is = tt
+handle-given a (Some h) t of is =
+    let held = values_in a.handles.now in
+    let given = given-value held (local_tree a.value.now) (shared_tree h.now) (λ u. a.size.levels ≡ (size_of u).levels) (ap (resolved held) of ∙ is) a.levels in
+    sym (ap (λ q. result_unwrap_or q null) given.2)

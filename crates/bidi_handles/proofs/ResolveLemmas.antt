@@ -13,7 +13,7 @@ use Rattle.bidi_shape.specs.ValueLaws.{others_of}
 use Rattle.bidi_params.specs.declared.error_code.ErrorCode.{ErrorCode}
 use Rattle.bidi_params.specs.declared.error_code.ErrorCode.TheVariants.{NoSuchHandle, NoSuchNode}
 use Rattle.bidi_values.specs.SiblingLaws.{around}
-use Rattle.bidi_values.specs.Content.{content, pair_content, contents_of, pairs_of, content-List, content-Pairs}
+use Rattle.bidi_values.specs.Content.{content, pair_content, contents_of, pairs_of, content-Plain, content-List, content-Pairs}
 use Rattle.bidi_values.specs.Kinds.{list_text, pairs_text}
 use Rattle.bidi_values.specs.NestedLaws.{NestingOf, value_tree, values_tree, pairs_tree}
 use Rattle.bidi_values.specs.View.{nested_tree, nested_pair_tree}
@@ -30,8 +30,13 @@ use Rattle.bidi_values.specs.contracts.reference.SharedReferenceShape.TheImpl as
 use Rattle.bidi_values.specs.contracts.reference.RemoteObjectReferenceShape.TheImpl as objects
 use Rattle.bidi_values.specs.declared.reference.Reference.{Reference}
 use Rattle.bidi_values.specs.declared.reference.Reference.TheVariants.{Shared}
+use Rattle.bidi_values.specs.contracts.local_value.LocalPlainShape.TheImpl as plains
+use Rattle.bidi_handles.specs.declared.handle.HeldValue.{HeldValue}
+use Rattle.std.specs.Borrow.{Bor}
+use Rattle.std.specs.declared.rc.Rc.{Rc}
+use Rattle.std.specs.Prelude.{IfSome}
 use Rattle.bidi_values.specs.contracts.reference.ReferenceShape.TheImpl as references
-use Rattle.bidi_values.specs.declared.nested.Nested.{Nested, List as ListOf, Pairs as PairsOf}
+use Rattle.bidi_values.specs.declared.nested.Nested.{Nested, Plain as PlainOf, List as ListOf, Pairs as PairsOf}
 use Rattle.bidi_values.specs.declared.nested.NestedPair.{NestedPair}
 use Rattle.bidi_values.specs.contracts.local_value.LocalPlainNestsListKindPairsKind.TheImpl as local
 use Rattle.bidi_values.specs.contracts.remote_value.RemotePlainNestsRemoteListRemotePairs.TheImpl as remote
@@ -41,7 +46,7 @@ use Rattle.bidi_handles.specs.Checks.{◌>>=◌, found}
 use Rattle.bidi_handles.specs.Resolves.{Gives, this_argument}
 use Rattle.bidi_handles.specs.Values.{Held, resolved, resolved_items, argument}
 use Rattle.bidi_values.specs.RemoteView.{remote_tree}
-use Rattle.bidi_handles.specs.ValuesInHand.{local_tree, local_pair_tree, remote_trees, remote_pair_trees}
+use Rattle.bidi_handles.specs.ValuesInHand.{local_tree, local_pair_tree, remote_trees, remote_pair_trees, held_tree, shared_tree}
 
 -- ---- references
 
@@ -98,6 +103,18 @@ shared_id-there r =
         ≡ (is_some id || is_some (get_member (codes "sharedId") (others_of r.ext)))
     by None = refl
     by (Some id) = ap is_some (get_member-put (codes "sharedId") (text (string_bytes id)) (others_of r.ext))
+
+-- the tree of a local value that has no others inside
+pub local-plain : (v : Nested LocalPlain ListKind PairsKind) (p : LocalPlain) → v ≡ PlainOf p → local_tree v ≡ plains.ghosts.shape.tree_of p
+local-plain v p is = ap local_tree is ∙ ap (value_tree local.ghosts.nesting) (content-Plain p)
+
+-- the value of a handle that was found
+pub handle-resolved : (held : Held) (r : Option (Bor (Rc HeldValue Global))) (t : Node) (id : List ℕ)
+    → get_of (codes "sharedId") t ≡ None → get_of (codes "handle") t ≡ Some (text id)
+    → option_map (λ h. held_tree h.now.value) r ≡ held id → IfSome r (λ h. resolved held t ≡ Ok (shared_tree h.now))
+handle-resolved held None t id none there is = tt
+handle-resolved held (Some h) t id none there is =
+    by-handle (λ n. n) held (Ok (held_tree h.now.value)) t id none there (ap (λ o. found o NoSuchHandle) (sym is))
 
 -- what is there, and what is not
 pub there : {A : Type 0} (o : Option A) → is_some o ≡ true → (x : A) × (o ≡ Some x)
@@ -172,10 +189,10 @@ module _ {P L M : Type 0} (n : NestingOf P L M) where
   pairs_tree-of [] = refl
   pairs_tree-of (p ∷ ps) = ap (item (nested_pair_tree n p)) (pairs_tree-of ps)
 
-  list_tree : (l : L) (vs : Vec (Nested P L M) Global) → nested_tree n (ListOf l vs) ≡ around n.list l (list_node (items_of (map (nested_tree n) vs.items)))
+  pub list_tree : (l : L) (vs : Vec (Nested P L M) Global) → nested_tree n (ListOf l vs) ≡ around n.list l (list_node (items_of (map (nested_tree n) vs.items)))
   list_tree l vs = ap (value_tree n) (content-List l vs) ∙ ap (λ ts. around n.list l (list_node ts)) (values_tree-of vs.items)
 
-  of_pairs_tree : (m : M) (ps : Vec (NestedPair P L M) Global)
+  pub of_pairs_tree : (m : M) (ps : Vec (NestedPair P L M) Global)
       → nested_tree n (PairsOf m ps) ≡ around n.pairs m (list_node (items_of (map (nested_pair_tree n) ps.items)))
   of_pairs_tree m ps = ap (value_tree n) (content-Pairs m ps) ∙ ap (λ ts. around n.pairs m (list_node ts)) (pairs_tree-of ps.items)
 

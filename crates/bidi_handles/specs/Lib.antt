@@ -8,3 +8,5 @@ pub mod Handles
 pub mod Sizes
 pub mod Measured
 pub mod Resolves
+pub mod Showing
+pub mod SoundProps

@@ -1,8 +1,10 @@
 //! Values that handles and rows of the script table hold, and the two ways in which a script ends.
-ghost use Rattle.std.specs.Prelude.{◌≡◌, ◌≤◌, ◌<◌, ◌^◌};
-ghost use Rattle.bidi_tree.specs.Node.{levels};
+ghost use Rattle.std.specs.Prelude.{◌≡◌, ◌≤◌, ◌<◌, ◌^◌, string_bytes};
+ghost use Rattle.bidi_tree.specs.Node.{levels, IsSound};
+ghost use Rattle.bidi_tree.specs.Text.{compact_text};
 ghost use Rattle.bidi_values.specs.View.{nested_tree};
 ghost use Rattle.bidi_handles.specs.Sizes.{size_of};
+ghost use Rattle.bidi_handles.specs.SoundProps.{IsSound-prop};
 
 use crate::size::Size;
 use bidi_values::{Nests, RemoteList, RemotePairs, RemotePlain, RemoteValue};
@@ -15,12 +17,18 @@ pub struct HeldValue {
     pub value: RemoteValue,
     /// The levels and bytes of its tree, counted once.
     pub(crate) size: Size,
+    /// The compact text of its tree, written once.
+    pub(crate) text: String,
     // The value has at most 60 levels.
     ghost few: { levels (nested_tree ⟦<RemotePlain as Nests<RemoteList, RemotePairs>>⟧.nesting value) ≤ 60 },
     // The size has the levels of the value's tree.
     ghost levels: { size.levels ≡ (size_of (nested_tree ⟦<RemotePlain as Nests<RemoteList, RemotePairs>>⟧.nesting value)).levels },
     // The size has the bytes of the value's compact text.
     ghost bytes: { size.bytes ≡ (size_of (nested_tree ⟦<RemotePlain as Nests<RemoteList, RemotePairs>>⟧.nesting value)).bytes },
+    // The text of the value's tree reads back as that tree.
+    ghost sound: { IsSound (nested_tree ⟦<RemotePlain as Nests<RemoteList, RemotePairs>>⟧.nesting value) } by { IsSound-prop _ },
+    // The text is the compact text of the value's tree.
+    ghost written: { string_bytes text ≡ compact_text (nested_tree ⟦<RemotePlain as Nests<RemoteList, RemotePairs>>⟧.nesting value) },
 }
 
 /// A value that a script throws. It has one level less than others, because the exception details wrap it.

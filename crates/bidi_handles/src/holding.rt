@@ -1,18 +1,22 @@
 //! Making a value that handles and rows of the script table share.
-ghost use Rattle.std.specs.Prelude.{◌≡◌, ◌≤◌, IfOk, IfErr};
-ghost use Rattle.bidi_tree.specs.Node.{levels};
+ghost use Rattle.std.specs.Prelude.{◌≡◌, ◌≤◌, IfOk, IfErr, string_bytes};
+ghost use Rattle.bidi_tree.specs.Node.{levels, IsSound};
+ghost use Rattle.bidi_tree.specs.Text.{compact_text};
+ghost use Rattle.bidi_handles.specs.Sizes.{size_of};
 ghost use Rattle.bidi_handles.specs.declared.refusal.Refusal.TheVariants as Refusal;
 ghost use Rattle.bidi_values.specs.RemoteView.{remote_tree};
 
 use crate::handle::HeldValue;
 use crate::measuring::size_of;
 use crate::refusal::Refusal;
+use crate::size::Size;
 use bidi_shape::Shape;
+use bidi_tree::write_outline;
 use bidi_values::RemoteValue;
-use std::alloc::Global;
+use std::alloc::{AllocError, Global};
 use std::rc::Rc;
 
-/// Puts a value into shared memory, with the size of its tree. Makes an outline to measure it.
+/// Puts a value into shared memory, with the size and the text of its tree. Makes an outline to measure and write it.
 ///
 /// # Errors
 /// `NoMemory`: an allocation failed.
@@ -24,6 +28,33 @@ pub fn held(alloc: Global, value: RemoteValue) -> Result<Rc<HeldValue>, Refusal>
     // The only error is `NoMemory`.
     ensures err { IfErr result (λ e. e ≡ Refusal.NoMemory) }
 {
-    let size = size_of(&value.outline(alloc)?);
-    Ok(Rc::new(alloc, HeldValue { value, size })?)
+    let (size, text) = measured_and_written(alloc, &value)?;
+    Ok(Rc::new(alloc, HeldValue { value, size, text })?)
+}
+
+// The size of a value's tree, and its compact text.
+fn measured_and_written(alloc: Global, value: &RemoteValue) -> Result<(Size, String), AllocError>
+    requires { levels (remote_tree value.now) ≤ 60 }
+    ensures size { IfOk result (λ r. r.0 ≡ size_of (remote_tree value.now)) }
+    ensures text { IfOk result (λ r. string_bytes r.1 ≡ compact_text (remote_tree value.now)) }
+    ensures sound { IfOk result (λ _. IsSound (remote_tree value.now)) }
+{
+    let outline = value.outline(alloc)?;
+    let text = write_outline(alloc, &outline)?;
+    Ok((size_of(&outline), text))
+}
+
+/// The compact text of a value's tree.
+///
+/// # Errors
+/// No memory: an allocation failed.
+pub(crate) fn text_of(alloc: Global, value: &RemoteValue) -> Result<String, AllocError>
+    requires { levels (remote_tree value.now) ≤ 60 }
+    // The result is the text of the tree.
+    ensures text { IfOk result (λ s. string_bytes s ≡ compact_text (remote_tree value.now)) }
+    // The tree is that which the text reads back as.
+    ensures sound { IfOk result (λ _. IsSound (remote_tree value.now)) }
+{
+    let outline = value.outline(alloc)?;
+    write_outline(alloc, &outline)
 }

@@ -6,8 +6,8 @@
 //!   realm: call [`Handles::reserve`] before [`Handles::hold`].
 //! - [`check_arguments`] and [`check_this`] check the arguments of a call without building a value.
 //!   [`given_back`] then builds the value of one [`Argument`], if the script returns it.
-//! - [`shown`] copies a value for a reply, cut at a depth and with its handle; [`takes_handle`] says whether
-//!   it can have one.
+//! - [`shown_text`] gives the text of a value for a reply, cut at a depth and with its handle; [`takes_handle`]
+//!   says whether it can have one.
 //!
 //! # Example
 //! `id_text(alloc, IdKind::Context, 0, 1)?` is `00000000-0002-8000-8000-000000000001`.
@@ -44,5 +44,5 @@ pub use holding::held;
 pub use id::{IdKind, id_number, id_text};
 pub use refusal::Refusal;
 pub use resolving::{check_arguments, check_this, given_back};
-pub use showing::{shown, takes_handle};
+pub use showing::{shown_text, takes_handle};
 pub use values::has_handle;

@@ -1,7 +1,7 @@
 //! Resolving local values to remote ones, with the values of their handles in place of references.
 //!
 //! A value is measured before it is built, and is built only if a script returns it.
-ghost use Rattle.std.specs.Prelude.{◌≡◌, IfOk, IfErr, codes, is_some, map, option_map};
+ghost use Rattle.std.specs.Prelude.{◌≡◌, Ok, IfOk, IfErr, IfSome, codes, is_some, map, option_map};
 ghost use Rattle.bidi_params.specs.declared.error_code.ErrorCode.TheVariants.{NoSuchHandle};
 ghost use Rattle.bidi_tree.specs.Node.{get_of};
 ghost use Rattle.bidi_tree.specs.View.{items_of};
@@ -18,6 +18,7 @@ ghost use Rattle.bidi_handles.specs.ValuesInHand.{remote_pair_trees, shared_tree
 use crate::argument::Argument;
 use crate::handle::HeldValue;
 use crate::handles::Handles;
+use crate::holding::text_of;
 use crate::measuring::measured;
 use crate::refusal::Refusal;
 use crate::size::Size;
@@ -79,7 +80,8 @@ pub fn check_this(
     }
 }
 
-/// Builds the value that an argument resolves to, in shared memory. Measures nothing.
+/// The value that an argument resolves to, in shared memory: that of its handle if it is a reference, and else a new one, which is
+/// built and written. Measures nothing.
 ///
 /// # Errors
 /// `NoMemory`: an allocation failed.
@@ -89,9 +91,54 @@ pub fn given_back(alloc: Global, given: &Argument<'_>) -> Result<Rc<HeldValue>, 
     // The only error is `NoMemory`.
     ensures err { IfErr result (λ e. e ≡ Refusal.NoMemory) }
 {
+    match held_whole(given) {
+        Some(held) => Ok(held.clone()?),
+        None => built(alloc, given),
+    }
+}
+
+// The value of the handle that an argument is a reference to, if it is one.
+fn held_whole<'a>(given: &Argument<'a>) -> Option<&'a Rc<HeldValue>>
+    ensures { IfSome result (λ held. shared_tree held.now ≡ stands_for given.now) }
+{
+    match given.value {
+        Nested::Plain(plain) => held_plain(given.handles, plain),
+        _ => None,
+    }
+}
+
+// The value of the handle that a value that has no others inside is a reference to, if it is one.
+fn held_plain<'a>(handles: &'a Handles, plain: &LocalPlain) -> Option<&'a Rc<HeldValue>>
+    ensures { IfSome result (λ held. resolved (values_in handles.now) (⟦<LocalPlain as Shape>⟧.shape.tree_of plain.now) ≡ Ok (shared_tree held.now)) }
+{
+    match plain {
+        LocalPlain::Reference(Reference::RemoteObject(object)) => held_object(handles, object),
+        _ => None,
+    }
+}
+
+// The value of the handle of a reference that has no `sharedId`.
+fn held_object<'a>(
+    handles: &'a Handles,
+    object: &RemoteObjectReference,
+) -> Option<&'a Rc<HeldValue>>
+    ensures { IfSome result (λ held. resolved (values_in handles.now) (⟦<RemoteObjectReference as Shape>⟧.shape.tree_of object.now) ≡ Ok (shared_tree held.now)) }
+{
+    if has_shared_id(object) {
+        return None;
+    }
+    handles.held(&object.handle)
+}
+
+// Builds the value that an argument resolves to, and writes its text.
+fn built(alloc: Global, given: &Argument<'_>) -> Result<Rc<HeldValue>, Refusal>
+    ensures ok { IfOk result (λ held. shared_tree held ≡ stands_for given.now) }
+    ensures err { IfErr result (λ e. e ≡ Refusal.NoMemory) }
+{
     let value = resolved(alloc, given.handles, given.value)?;
     let size = given.size;
-    Ok(Rc::new(alloc, HeldValue { value, size })?)
+    let text = text_of(alloc, &value)?;
+    Ok(Rc::new(alloc, HeldValue { value, size, text })?)
 }
 
 // The argument with the size of the value that it resolves to, or the error of an argument that

@@ -1,13 +1,15 @@
 -- A message that a remote end sends may be written, and its tree fits the rule of messages.
 use Rattle.std.proofs.Common.{◌≡◌, ◌∙◌, ◌≤◌, ◌⊎◌, inl, inr, ℕ, nat_le, nat_eq, Bool, true, false, true≢false}
 use Rattle.std.proofs.Common.{bytes_eq, List, [], ◌∷◌, codes, Option, Some, None, option_map, Result, Ok, Err}
-use Rattle.std.proofs.Common.{IfOk, String, Global, string_bytes, refl, sym, ap, subst, zero-le, arith}
+use Rattle.std.proofs.Common.{IfOk, String, Global, string_bytes, refl, sym, ap, ap₂, subst, zero-le, arith, ◌++◌, append_assoc}
+use Rattle.std.specs.Prelude.{decimal}
 use Rattle.std.proofs.lemmas.Bool.{leb-true}
 use Rattle.json.specs.Print.{escape_byte}
-use Rattle.bidi_tree.specs.Node.{Node, Members, no_members, member, put, map, text, levels, IsWhole, IsWritable, MembersAreWhole}
+use Rattle.bidi_tree.specs.Node.{Node, Members, no_members, member, put, map, text, levels, IsSound, IsWhole, IsWritable, MembersAreWhole}
 use Rattle.bidi_tree.specs.Text.{tree_of, compact_text}
 use Rattle.bidi_tree.specs.declared.number.JsUint.{JsUint}
 use Rattle.bidi_tree.proofs.MemberLemmas.{get_member-put}
+use Rattle.bidi_tree.proofs.RoundTrip.{tree_of-compact_text}
 use Rattle.bidi_shape.specs.Name.{Name, message, error_response, command_response, error_code}
 use Rattle.bidi_shape.specs.Term as term
 use Rattle.bidi_shape.specs.Term.{Rows, Openness, required, optional, extensible, exactly, null, js_uint, map_of, either, no_more, row, rule, names_of}
@@ -126,6 +128,31 @@ error_fits id code =
     (row_fits _ (codes "message") required term.text _ (fits_text (error_code_text code))
     (row_fits _ (codes "stacktrace") optional term.text no_more tt (no_row _))))))
     (refl, zero-le)))))
+
+-- ---- a response around the text of its result
+
+-- five pieces, pushed one after another
+appended : (s0 s1 s2 s3 s4 s5 a d b r e : List ℕ) → s0 ≡ [] → s1 ≡ s0 ++ a → s2 ≡ s1 ++ d → s3 ≡ s2 ++ b → s4 ≡ s3 ++ r → s5 ≡ s4 ++ e
+    → s5 ≡ a ++ (d ++ (b ++ (r ++ e)))
+appended s0 s1 s2 s3 s4 s5 a d b r e e0 e1 e2 e3 e4 e5 =
+    e5
+    ∙ (ap (λ x. x ++ e) (e4 ∙ ap (λ x. x ++ r) (e3 ∙ ap (λ x. x ++ b) (e2 ∙ ap (λ x. x ++ d) (e1 ∙ ap (λ x. x ++ a) e0))))
+    ∙ (append_assoc ((a ++ d) ++ b) r e ∙ (append_assoc (a ++ d) b (r ++ e) ∙ append_assoc a d (b ++ (r ++ e)))))
+
+pub around-text : (s0 s1 s2 s3 s4 s5 d r : List ℕ) (id : ℕ) (t : Node) → s0 ≡ [] → s1 ≡ s0 ++ codes "{\"id\":" → s2 ≡ s1 ++ d
+    → s3 ≡ s2 ++ codes ",\"result\":" → s4 ≡ s3 ++ r → s5 ≡ s4 ++ codes ",\"type\":\"success\"}"
+    → d ≡ decimal id → r ≡ compact_text t → s5 ≡ compact_text (response_tree id t)
+unfolding escape_byte
+around-text s0 s1 s2 s3 s4 s5 d r id t e0 e1 e2 e3 e4 e5 digits result =
+    appended s0 s1 s2 s3 s4 s5 _ d _ r _ e0 e1 e2 e3 e4 e5
+    ∙ ap₂ (λ x y. codes "{\"id\":" ++ (x ++ (codes ",\"result\":" ++ (y ++ codes ",\"type\":\"success\"}")))) digits result
+
+-- it reads back if its result does
+pub around-back : (s : List ℕ) (id : JsUint) (t : Node) → s ≡ compact_text (response_tree id.value t) → IsSound t → IsWhole t 61
+    → tree_of s ≡ Some (response_tree id.value t)
+around-back s id t is sound whole =
+    let fits : IsSound (response_tree id.value t) = (((refl, (refl, tt)), ((refl, tt), (tt, tt))), (id.in_range, (sound, (tt, tt)))) in
+    ap tree_of is ∙ tree_of-compact_text (response_tree id.value t) fits (response_writable id.value t 61 whole whole.1)
 
 -- ---- maps of one type are none of another
 

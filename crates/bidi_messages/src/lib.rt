@@ -50,5 +50,5 @@ pub use event::Event;
 pub use judging::{Verdict, judge, judge_with};
 pub use message::{ErrorResponse, Message, Response};
 pub use response_reading::response_id;
-pub use sending::{error_text, event_text, response_text};
+pub use sending::{error_text, event_text, response_around, response_text};
 pub use text::{MessageFault, Sendable, message_of, read_message, read_message_with, text_of};

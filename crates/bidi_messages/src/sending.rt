@@ -1,8 +1,11 @@
 //! The texts that a remote end sends. They have only the members that their rule names.
 ghost use Rattle.std.specs.Prelude.{◌≡◌, ◌≤◌, Some, IfOk, string_bytes, option_map};
-ghost use Rattle.bidi_tree.specs.Node.{levels, IsWritable};
+ghost use Rattle.bidi_tree.specs.Node.{Node, levels, IsSound, IsWhole, IsWritable};
 ghost use Rattle.bidi_tree.specs.Outline.{outline_node};
-ghost use Rattle.bidi_tree.specs.Text.{tree_of};
+ghost use Rattle.bidi_tree.specs.Text.{tree_of, compact_text};
+ghost use Rattle.bidi_shape.specs.Term.{rule};
+ghost use Rattle.bidi_shape.specs.Fits.{Fits};
+ghost use Rattle.bidi_methods.specs.Method.{result_of};
 ghost use Rattle.bidi_messages.specs.Message.{response_tree, response_text, error_tree, error_text, event_text};
 ghost use Rattle.bidi_messages.specs.Reading.{IsMessageText};
 ghost use Rattle.bidi_messages.specs.Payloads.{EventIsWell, ResultIsWell, event_of, event_params, result_tree};
@@ -42,6 +45,34 @@ pub fn response_text(
     ensures reads_back { IfOk result (λ s. IsMessageText ⟦<Message as Shape>⟧.shape (string_bytes s)) }
 {
     write_response(alloc, id, result_data)
+}
+
+/// The room for the other members of a response.
+const RESPONSE_ROOM: usize = 64;
+
+/// Makes the text of the response to a command whose result is there as a text, which is copied once.
+///
+/// # Errors
+/// No memory: an allocation failed.
+pub fn response_around(alloc: Global, id: JsUint, result_text: &str) -> Result<String, AllocError>
+    // The text is that of the response with this id and the result of this text.
+    ensures text { (t : Node) → result_text.now ≡ compact_text t → IfOk result (λ s. string_bytes s ≡ response_text id.value t) }
+    // If a response can hold the result, the text reads back as the tree of that response.
+    ensures tree { (t : Node) → result_text.now ≡ compact_text t → IsSound t → IsWhole t 61
+        → IfOk result (λ s. tree_of (string_bytes s) ≡ Some (response_tree id.value t)) }
+    // If the result also fits the rule of a method's results, the text is that of a message.
+    ensures reads_back { (t : Node) (method : Method) → result_text.now ≡ compact_text t → IsSound t → IsWhole t 61
+        → Fits t (rule (result_of method)) → IfOk result (λ s. IsMessageText ⟦<Message as Shape>⟧.shape (string_bytes s)) }
+{
+    let mut digits = itoa::Buffer::new();
+    let room = result_text.len().saturating_add(RESPONSE_ROOM);
+    let mut text = String::with_capacity(alloc, room)?;
+    text.push_str("{\"id\":")?;
+    text.push_str(digits.format(id.value))?;
+    text.push_str(",\"result\":")?;
+    text.push_str(result_text)?;
+    text.push_str(",\"type\":\"success\"}")?;
+    Ok(text)
 }
 
 /// Makes the text of a response. The result is used up here, where its variants are not visible.

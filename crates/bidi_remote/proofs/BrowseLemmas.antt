@@ -5,7 +5,7 @@ use Rattle.std.specs.Prelude.{is_some, option_map}
 use Rattle.std.specs.Option.{option_zip}
 use Rattle.std.specs.declared.rc.Rc.{Rc}
 use Rattle.bidi_params.specs.declared.error_code.ErrorCode.{ErrorCode}
-use Rattle.bidi_methods.specs.declared.result_data.ResultData.{ResultData}
+use Rattle.bidi_browser.specs.declared.command_result.CommandResult.{CommandResult}
 use Rattle.bidi_browser.specs.declared.plan.Plan.{Plan}
 use Rattle.bidi_contexts.specs.Acts.{Act, Logged, Looked, Ending}
 use Rattle.bidi_contexts.specs.Actions.{Action, Activate, Close, Create, GetTree, Navigate, Reload, TraverseHistory, Evaluate}
@@ -42,22 +42,22 @@ use Rattle.bidi_remote.proofs.TakeLemmas.{takes, all_taken}
 -- ---- the reply
 
 -- the result, for who asked
-abbrev reply_of : Asker × ResultData → Reply
+abbrev reply_of : Asker × CommandResult → Reply
 reply_of r = record { to = r.0; outcome = r.1 }
 
 -- the reply in a plan, where somebody asked
-reply-asked : (asker : Asker) (o : Option ResultData) → reply_in (option_map reply_of (option_zip (Some asker) o)) ≡ planned.reply_in o
+reply-asked : (asker : Asker) (o : Option CommandResult) → reply_in (option_map reply_of (option_zip (Some asker) o)) ≡ planned.reply_in o
 reply-asked asker None = refl
 reply-asked asker (Some r) = refl
 
 -- it goes to who asked
-asker-asked : (asker : Asker) (o : Option ResultData)
+asker-asked : (asker : Asker) (o : Option CommandResult)
     → is_some o ≡ true → asker_in (option_map reply_of (option_zip (Some asker) o)) ≡ Some (asker.conn.value, asker.id.value)
 asker-asked asker None e = absurd (cc)
 asker-asked asker (Some r) e = refl
 
 -- and where nobody did, there is none
-reply-unasked : (o : Option ResultData) → is_some o ≡ false → planned.reply_in o ≡ []
+reply-unasked : (o : Option CommandResult) → is_some o ≡ false → planned.reply_in o ≡ []
 reply-unasked None e = refl
 reply-unasked (Some r) e = absurd (cc)
 

@@ -44,6 +44,7 @@ use Rattle.bidi_remote.specs.State.SessionRows.{session_row, session_rows, row_a
 use Rattle.bidi_sessions.specs.SubscriptionRows.{any_covers, any_global, numbers_named}
 use Rattle.bidi_missed.specs.News.{is_new}
 use Rattle.bidi_browser.specs.View.{result_tree}
+use Rattle.bidi_browser.specs.declared.command_result.CommandResult.TheVariants.{Data}
 use Rattle.bidi_remote.specs.State.Turns.{Decides, IsMade, IsOfSessions, deed_of, announced_by}
 use Rattle.bidi_sessions.proofs.ListLemmas.{filter-same, all-same}
 use Rattle.bidi_remote.proofs.PlaceLemmas.{waiting-places, waiting-events, new-written}
@@ -65,8 +66,8 @@ made-of_sessions (Dismiss s es) past act ours = tt
 module _ (turn : Turn) (past : List Deed) (asker : Asker) (asked : Command) (answer : Result Deed ErrorCode) (change : Change)
     (r : ResultData) (ours : IsOfSessions change)
     (same : turn.change ≡ change) (before : turn.telling.before.items ≡ [])
-    (reply : turn.telling.reply ≡ Some (record { to = asker; outcome = r })) (after : turn.telling.after.items ≡ [])
-    (is : answer ≡ Ok (deed_of change Looked)) (told : Replies (result_tree r) ∷ [] ≡ items past (action_in (Some asked)) (deed_of change Looked)) where
+    (reply : turn.telling.reply ≡ Some (record { to = asker; outcome = Data r })) (after : turn.telling.after.items ≡ [])
+    (is : answer ≡ Ok (deed_of change Looked)) (told : Replies (result_tree (Data r)) ∷ [] ≡ items past (action_in (Some asked)) (deed_of change Looked)) where
   -- a change that is announced, and then replied to
   pub announced-decides : written_in turn.telling.announced.items ≡ map written (announced_by past (deed_of change Looked))
       → AreMessages (written_in turn.telling.announced.items) → Decides (Ok turn) past asker asked answer

@@ -7,7 +7,8 @@ use Rattle.bidi_tree.specs.Node.{Node}
 use Rattle.bidi_shape.specs.Term.{rule}
 use Rattle.bidi_shape.specs.Fits.{Fits}
 use Rattle.bidi_methods.specs.declared.method.Method.{Method}
-use Rattle.bidi_methods.specs.declared.result_data.ResultData.{ResultData}
+use Rattle.bidi_browser.specs.declared.command_result.CommandResult.{CommandResult}
+use Rattle.bidi_browser.specs.declared.command_result.CommandResult.TheVariants.{Data, Text}
 use Rattle.bidi_methods.specs.contracts.result_data.ResultDataPayloadMethod.TheImpl as results
 use Rattle.bidi_messages.specs.Command.{method_in}
 use Rattle.bidi_methods.specs.Method.{method_text, result_of, method_words}
@@ -18,7 +19,7 @@ use Rattle.bidi_contexts.specs.Occurrences.{Occurrence}
 use Rattle.bidi_browser.specs.Occurs.{Item, Happens}
 use Rattle.bidi_browser.specs.Plans.{IsWellResult}
 use Rattle.bidi_contexts.specs.View.{seen}
-use Rattle.bidi_browser.specs.View.{result_tree}
+use Rattle.bidi_browser.specs.View.{result_tree, result_method}
 use Rattle.bidi_sessions.specs.declared.step.Sent as declared_sent
 use Rattle.bidi_remote.specs.declared.turn.Asker.{Asker}
 use Rattle.bidi_remote.specs.declared.turn.Reply.{Reply}
@@ -36,11 +37,16 @@ use Rattle.bidi_remote.proofs.TurnLemmas.{heard-open, asked-is}
 
 -- ---- the method of a result
 
-abbrev kind : ResultData → Method
-kind r = results.ghosts.payload.kind r
+abbrev kind : CommandResult → Method
+kind r = result_method r
+
+-- a result fits the rule of its method
+result-fits : (r : CommandResult) → IsWellResult r → Fits (result_tree r) (rule (result_of (kind r)))
+result-fits (Data r) well = results.ghosts.payload.fits r well.0
+result-fits (Text r) well = well.3
 
 -- one that the browser planned
-pub planned-of : (method : Method) (turn : Turn) (asker : Asker) (o : Option ResultData)
+pub planned-of : (method : Method) (turn : Turn) (asker : Asker) (o : Option CommandResult)
     → turn.telling.reply ≡ option_map (λ r. record { to = r.0; outcome = r.1 }) (option_zip (Some asker) o)
     → IfSome o (λ r. kind r ≡ method) → HasResultOf method (Ok turn)
 planned-of method turn asker None is same = subst (λ o. IfSome o (λ x. kind x.outcome ≡ method)) (sym is) tt
@@ -85,7 +91,7 @@ reply-in c id method before after (Some r) all well asker same reads is = (
   result_tree r.outcome,
   after,
   sym is,
-  subst (λ m. Fits (result_tree r.outcome) (rule (result_of m))) same (results.ghosts.payload.fits r.outcome well.0),
+  subst (λ m. Fits (result_tree r.outcome) (rule (result_of m))) same (result-fits r.outcome well),
   subst (λ n. ReadsAs n (result_tree r.outcome)) (same-id (r.to.conn.value, r.to.id.value) (c, id) asker) reads,
 )
 

@@ -1,9 +1,9 @@
 //! What is sent for a turn: each event to the sessions that are subscribed to it, and the reply in its place.
-ghost use Rattle.std.specs.Prelude.{◌≡◌, ◌≤◌, ◌++◌, List, map, flat_map, filter, string_bytes, IfOk, IfSome, OnOk};
+ghost use Rattle.std.specs.Prelude.{◌≡◌, ◌++◌, List, map, flat_map, filter, string_bytes, IfOk, IfSome, OnOk};
 ghost use Rattle.std.specs.List.{AllByRecursion, list_any};
-ghost use Rattle.bidi_tree.specs.Node.{levels};
 ghost use Rattle.bidi_contexts.specs.Acts.{Act};
 ghost use Rattle.bidi_contexts.specs.View.{occurrence_of, seen};
+ghost use Rattle.bidi_browser.specs.Plans.{IsWellResult};
 ghost use Rattle.bidi_browser.specs.View.{result_tree};
 ghost use Rattle.bidi_remote.specs.Machine.History.{Deed};
 ghost use Rattle.bidi_contexts.specs.Occurrences as heard;
@@ -22,18 +22,20 @@ ghost use Rattle.bidi_remote.specs.State.Routes.{to_one, to_all};
 ghost use Rattle.bidi_remote.specs.State.Stands.{AgreeWith};
 ghost use Rattle.bidi_remote.specs.State.Turns.{IsWellTold, deed_of, asker_in, reply_in, items_in, sent_of_item, sent_for, to_subscriber_in, closed_in};
 ghost use Rattle.bidi_sessions.specs.View.{sent_of, sent_if};
-ghost use Rattle.bidi_messages.specs.Payloads.{EventIsWell, ResultIsWell};
+ghost use Rattle.bidi_messages.specs.Message.{response_text};
+ghost use Rattle.bidi_messages.specs.Payloads.{EventIsWell};
 
 use crate::sessions::Session;
 use crate::state::State;
 use crate::turn::{Change, Reply, Telling};
-use bidi_browser::{Occurrence, Top};
+use bidi_browser::{CommandResult, Occurrence, Top};
 use bidi_messages::{
-    EventData, EventName, Message, Method, Payload, ResultData, event_text, response_text,
+    EventData, EventName, Message, Payload, event_text, response_around, response_text,
 };
 use bidi_missed::EventText;
 use bidi_sessions::{Connections, Sent, SentText};
 use bidi_shape::Shape;
+use bidi_tree::JsUint;
 use std::alloc::{AllocError, Global};
 use std::rc::Rc;
 
@@ -116,17 +118,30 @@ fn all_sent(
 
 // The reply with its text, if there is one.
 fn reply_sent(alloc: Global, reply: Option<Reply>) -> Result<Option<Sent>, AllocError>
-    requires { IfSome reply (λ r. ResultIsWell r.outcome × (levels (result_tree r.outcome) ≤ 61)) }
+    requires { IfSome reply (λ r. IsWellResult r.outcome) }
     ensures reply { (past : List Deed) → IfOk result (λ sent. sent_if sent ≡ flat_map (sent_of_item past (asker_in reply)) (reply_in reply)) }
     ensures reads_back { IfOk result (λ sent. AllReadBack (sent_if sent)) }
     ensures reads { IfSome reply (λ r. OnOk result (ReadsAs r.to.id.value (result_tree r.outcome))) }
 {
     match reply {
         Some(Reply { to, outcome }) => {
-            let text = response_text(alloc, to.id, outcome)?;
+            let text = reply_text(alloc, to.id, outcome)?;
             Ok(Some(Sent::Text(to.conn, SentText::Own(text))))
         }
         None => Ok(None),
+    }
+}
+
+// The text of the reply to a command of this id. The result is used up.
+fn reply_text(alloc: Global, id: JsUint, outcome: CommandResult) -> Result<String, AllocError>
+    requires { IsWellResult outcome }
+    ensures text { IfOk result (λ s. string_bytes s ≡ response_text id.value (result_tree outcome)) }
+    ensures reads_back { IfOk result (λ s. IsMessageText ⟦<Message as Shape>⟧.shape (string_bytes s)) }
+    ensures reads { OnOk result (ReadsAs id.value (result_tree outcome)) }
+{
+    match outcome {
+        CommandResult::Data(data) => response_text(alloc, id, data),
+        CommandResult::Text(result) => response_around(alloc, id, &result.text),
     }
 }
 

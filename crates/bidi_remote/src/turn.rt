@@ -1,8 +1,9 @@
 //! What a command or a step of a page changes, and what is sent for it.
 ghost use Rattle.std.specs.Option.{option_zip};
 ghost use Rattle.std.specs.Prelude.{◌≡◌, Some, [], option_map};
+ghost use Rattle.bidi_browser.specs.declared.command_result.CommandResult.TheVariants as CommandResult;
 
-use bidi_browser::{Change as BrowserChange, Occurrence, Plan};
+use bidi_browser::{Change as BrowserChange, CommandResult, Occurrence, Plan};
 use bidi_messages::{EventName, ResultData};
 use bidi_missed::{EventText, LogBuffer};
 use bidi_sessions::Scope;
@@ -45,7 +46,7 @@ pub(crate) struct Reply {
     /// The command that it answers.
     pub to: Asker,
     /// The result.
-    pub outcome: ResultData,
+    pub outcome: CommandResult,
 }
 
 /// What is sent for a change, in this order.
@@ -76,7 +77,7 @@ impl Turn {
         ensures change { result.change ≡ change }
         ensures announced { result.telling.announced.items ≡ [] }
         ensures before { result.telling.before.items ≡ [] }
-        ensures reply { result.telling.reply ≡ Some (record { to = to; outcome = outcome }) }
+        ensures reply { result.telling.reply ≡ Some (record { to = to; outcome = CommandResult.Data outcome }) }
         ensures after { result.telling.after.items ≡ [] }
     {
         Turn::announced(alloc, change, Vec::new(alloc), to, outcome)
@@ -93,7 +94,7 @@ impl Turn {
         ensures change { result.change ≡ change }
         ensures announced { result.telling.announced ≡ announced }
         ensures before { result.telling.before.items ≡ [] }
-        ensures reply { result.telling.reply ≡ Some (record { to = to; outcome = outcome }) }
+        ensures reply { result.telling.reply ≡ Some (record { to = to; outcome = CommandResult.Data outcome }) }
         ensures after { result.telling.after.items ≡ [] }
     {
         Turn {
@@ -101,7 +102,10 @@ impl Turn {
             telling: Telling {
                 announced,
                 before: Vec::new(alloc),
-                reply: Some(Reply { to, outcome }),
+                reply: Some(Reply {
+                    to,
+                    outcome: CommandResult::Data(outcome),
+                }),
                 after: Vec::new(alloc),
             },
         }

@@ -4,7 +4,7 @@ ghost use Rattle.std.specs.Prelude.{IfOk};
 use bidi_messages::{
     CommandData, ErrorCode, EventData, EventName, Message, Method, Named, Payload, ResultData,
     Sendable, SessionCommand, Verdict, data_of, error_text, event_text, judge, read_message,
-    response_id, response_text, result_of, text_of,
+    response_around, response_id, response_text, result_of, text_of,
 };
 use bidi_params::UnsubscribeParameters;
 use bidi_tree::{JsUint, Tree, are_whole, parse};
@@ -29,6 +29,7 @@ impl Asked for Messages {
             "event" => event(alloc, text),
             "further" => further(alloc, text),
             "response" => response(alloc, text),
+            "around" => around(alloc, text),
             "error" => error(alloc, text),
             "event-again" => event_again(alloc, text),
             "method" => name_of::<Method>(alloc, text),
@@ -381,6 +382,7 @@ const SENT: &str = r#"
 response session.status {"message":"full","ready":false} -> {"id":1,"result":{"message":"full","ready":false},"type":"success"}
 response script.evaluate {"exceptionDetails":{"columnNumber":0,"exception":{"type":"array","value":[{"type":"array","value":[{"type":"array","value":[{"type":"array","value":[{"type":"array","value":[{"type":"array","value":[{"type":"array","value":[{"type":"array","value":[{"type":"array","value":[{"type":"array","value":[{"type":"array","value":[{"type":"array","value":[{"type":"array","value":[{"type":"array","value":[{"type":"array","value":[{"type":"array","value":[{"type":"array","value":[{"type":"array","value":[{"type":"array","value":[{"type":"array","value":[{"type":"array","value":[{"type":"array","value":[{"type":"array","value":[{"type":"array","value":[{"type":"array","value":[{"type":"array","value":[{"type":"array","value":[{"type":"array","value":[{"type":"array","value":[{"type":"array"}]}]}]}]}]}]}]}]}]}]}]}]}]}]}]}]}]}]}]}]}]}]}]}]}]}]}]}]}]},"lineNumber":0,"stackTrace":{"callFrames":[]},"text":"thrown"},"realm":"r","type":"exception"} -> {"id":1,"result":{"exceptionDetails":{"columnNumber":0,"exception":{"type":"array","value":[{"type":"array","value":[{"type":"array","value":[{"type":"array","value":[{"type":"array","value":[{"type":"array","value":[{"type":"array","value":[{"type":"array","value":[{"type":"array","value":[{"type":"array","value":[{"type":"array","value":[{"type":"array","value":[{"type":"array","value":[{"type":"array","value":[{"type":"array","value":[{"type":"array","value":[{"type":"array","value":[{"type":"array","value":[{"type":"array","value":[{"type":"array","value":[{"type":"array","value":[{"type":"array","value":[{"type":"array","value":[{"type":"array","value":[{"type":"array","value":[{"type":"array","value":[{"type":"array","value":[{"type":"array","value":[{"type":"array","value":[{"type":"array"}]}]}]}]}]}]}]}]}]}]}]}]}]}]}]}]}]}]}]}]}]}]}]}]}]}]}]}]}]},"lineNumber":0,"stackTrace":{"callFrames":[]},"text":"thrown"},"realm":"r","type":"exception"},"type":"success"}
 response script.evaluate {"exceptionDetails":{"columnNumber":0,"exception":{"type":"array","value":[{"type":"array","value":[{"type":"array","value":[{"type":"array","value":[{"type":"array","value":[{"type":"array","value":[{"type":"array","value":[{"type":"array","value":[{"type":"array","value":[{"type":"array","value":[{"type":"array","value":[{"type":"array","value":[{"type":"array","value":[{"type":"array","value":[{"type":"array","value":[{"type":"array","value":[{"type":"array","value":[{"type":"array","value":[{"type":"array","value":[{"type":"array","value":[{"type":"array","value":[{"type":"array","value":[{"type":"array","value":[{"type":"array","value":[{"type":"array","value":[{"type":"array","value":[{"type":"array","value":[{"type":"array","value":[{"type":"array","value":[{"type":"array","value":[]}]}]}]}]}]}]}]}]}]}]}]}]}]}]}]}]}]}]}]}]}]}]}]}]}]}]}]}]}]},"lineNumber":0,"stackTrace":{"callFrames":[]},"text":"thrown"},"realm":"r","type":"exception"} -> too deep
+around {"context":"c"} -> {"id":1,"result":{"context":"c"},"type":"success"}
 error null invalid argument -> {"error":"invalid argument","id":null,"message":"invalid argument","type":"error"}
 error 1 unknown command -> {"error":"unknown command","id":1,"message":"unknown command","type":"error"}
 event-again {"method":"script.realmDestroyed","params":{"realm":"r"},"type":"event"} -> same
@@ -463,6 +465,12 @@ fn response(alloc: Global, text: &str) -> Result<String, Fail> {
     }
     let answer = result_of(alloc, method, &members)?;
     Ok(response_text(alloc, id, answer)?)
+}
+
+/// The response with id 1 around the text of its result.
+fn around(alloc: Global, text: &str) -> Result<String, Fail> {
+    let id = JsUint::new(1).ok_or("no number")?;
+    Ok(response_around(alloc, id, text)?)
 }
 
 /// The error with an id, or none, and a code.

@@ -2,11 +2,10 @@
 use Rattle.std.specs.Prelude.{◌≡◌, ℕ, Bool, true, false, List, [], ◌∷◌, ◌++◌, map, flat_map, Option, Some, None, Result, Ok, Err, IfSome, ⊤}
 use Rattle.bidi_params.specs.declared.error_code.ErrorCode.{ErrorCode}
 use Rattle.bidi_methods.specs.declared.method.Method.{Method}
-use Rattle.bidi_methods.specs.contracts.result_data.ResultDataPayloadMethod.TheImpl as results
 use Rattle.bidi_messages.specs.Message.{response_text}
 use Rattle.bidi_contexts.specs.Acts.{Act, Logged}
 use Rattle.bidi_contexts.specs.View.{seen}
-use Rattle.bidi_browser.specs.View.{result_tree}
+use Rattle.bidi_browser.specs.View.{result_tree, result_method}
 use Rattle.bidi_browser.specs.Plans as browser
 use Rattle.bidi_contexts.specs.View.{AreWell}
 use Rattle.bidi_browser.specs.Plans.{IsWellResult}
@@ -127,7 +126,7 @@ IsWellDecided (Err refusal) = ⊤
 
 -- If there is a turn with a reply, the result is one of this method.
 abbrev pub HasResultOf : Method → Result Turn Refusal → Type 0
-HasResultOf method (Ok turn) = IfSome turn.telling.reply (λ r. results.ghosts.payload.kind r.outcome ≡ method)
+HasResultOf method (Ok turn) = IfSome turn.telling.reply (λ r. result_method r.outcome ≡ method)
 HasResultOf method (Err refusal) = ⊤
 
 -- ---- what is sent for a turn

@@ -1,6 +1,6 @@
 use Rattle.std.proofs.Common.{◌∙◌, [], ◌∷◌, string_bytes, refl, sym, ap}
 use Rattle.std.specs.Prelude.{option_map, ◌&&◌}
-use Rattle.bidi_methods.specs.declared.result_data.ResultData.TheVariants.{ScriptCallFunction}
+use Rattle.bidi_browser.specs.declared.command_result.CommandResult.TheVariants.{Text}
 use Rattle.bidi_contexts.specs.Acts.{Ran}
 use Rattle.bidi_browser.specs.Asked.{arguments_asked, call_function_asked, is_owned, target_of}
 use Rattle.bidi_handles.specs.Checks.{◌>>=◌}
@@ -49,7 +49,7 @@ returns-clause-plans c = λ past moment stands ids.
     let ending = ending_seen c.in_ok-ending.ending in
     let ran = c.in_ok-result.ensures.ran past at.0 stands ids at.1 at.3 in
     let act = Ran (realm_of past at.0) ending (c.is_owned-owned.result && takes_handle (value_of ending)) in
-    answered-plans c.answered.result past moment (call_function_asked p) act (ScriptCallFunction c.in_ok-result.field-0.result) c.in_ok-result.field-0.edit refl
+    answered-plans c.answered.result past moment (call_function_asked p) act (Text c.in_ok-result.field-0.result) c.in_ok-result.field-0.edit refl
     (call-outcome past (string_bytes p.function_declaration) (target_of p.target) (arguments_asked p) (option_map local_tree p.this)
     owned (realm_of past at.0) at.2
     ∙ (ap (λ r. r >>= λ e. ending_outcome past (realm_of past at.0) owned e) ended

@@ -1,5 +1,6 @@
 use Rattle.std.proofs.Common.{◌∙◌, ◌∷◌, [], Some, sym, ap, subst, refl, arith}
 use Rattle.bidi_methods.specs.declared.result_data.ResultData.TheVariants.{BrowsingContextClose}
+use Rattle.bidi_browser.specs.declared.command_result.CommandResult.TheVariants.{Data}
 use Rattle.bidi_contexts.specs.Acts.{Removed}
 use Rattle.bidi_contexts.specs.Occurrences.{removal}
 use Rattle.bidi_browser.specs.Occurs.{Replies}
@@ -13,7 +14,7 @@ returns-clause-plans c = λ past moment stands.
     let told = c.in_ok-before.ensures.told past found.0 stands.contexts found.2 in (
       Removed found.0,
       rw found.1 refl,
-      asked-removal (removal past found.0) c.in_ok-before.before.items _ (Some (BrowsingContextClose c.nothing.result)) told
+      asked-removal (removal past found.0) c.in_ok-before.before.items _ (Some (Data (BrowsingContextClose c.nothing.result))) told
           (ap (λ t. Replies t ∷ []) c.nothing.ensures.tree) c.new.ensures.items,
       refl,
       ap Removed (sym (c.number.ensures.number ∙ ap (λ r. r.number) found.2)),

@@ -1,6 +1,7 @@
 use Rattle.std.proofs.Common.{◌∙◌, ◌∷◌, [], Some, sym, ap, subst, refl, arith}
 use Rattle.std.specs.Prelude.{flat_map}
 use Rattle.bidi_methods.specs.declared.result_data.ResultData.TheVariants.{BrowserRemoveUserContext}
+use Rattle.bidi_browser.specs.declared.command_result.CommandResult.TheVariants.{Data}
 use Rattle.bidi_contexts.specs.Acts.{UserRemoved}
 use Rattle.bidi_contexts.specs.Contexts.{tops_in}
 use Rattle.bidi_contexts.specs.Occurrences.{removal}
@@ -15,7 +16,7 @@ returns-clause-plans c = λ past moment stands.
     let told = c.in_ok-before.ensures.told past stands.contexts in (
       UserRemoved u,
       rw (sym (c.named.ensures.named past stands.users) ∙ c.in-Some.is, sym c.eq.ensures ∙ c.if-eq.false) refl,
-      asked-removal (flat_map (removal past) (tops_in past u)) c.in_ok-before.before.items _ (Some (BrowserRemoveUserContext c.nothing.result)) told
+      asked-removal (flat_map (removal past) (tops_in past u)) c.in_ok-before.before.items _ (Some (Data (BrowserRemoveUserContext c.nothing.result))) told
           (ap (λ t. Replies t ∷ []) c.nothing.ensures.tree) c.new.ensures.items,
       refl,
       refl,
