@@ -106,7 +106,7 @@ def public(path):
 
 FN = re.compile(r"( *)(pub )?(?:final |const |unsafe )*fn (\w+)")
 OWNER = re.compile(r"(?:pub )?(?:(impl)(?:<.*?>)? (?:.* for )?|trait |struct )(\w+)")
-CLAUSE = re.compile(r" *(requires|ensures)(?: (\w+))? \{")
+CLAUSE = re.compile(r" *(requires|ensures)\*?(?: (\w+))? \{")
 ALWAYS = re.compile(r"    pub ghost (\w+): \{|    ghost (\w+): \{")
 
 
