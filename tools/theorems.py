@@ -2,12 +2,13 @@
 """Keeps what docs/THEOREMS.md quotes from the source word for word.
 
     theorems.py --write      fills in each quote and the table of the headline's files
-    theorems.py --check      ends with status 1 if one of them differs, but for line breaks, or a named edit is missing
+    theorems.py --check      ends with status 1 if one of them differs, but for line breaks, or an edit that is named does not stand where
+                             the page says
     theorems.py --show TEXT  prints one quote
 
 A quote is a block whose fence says what stands in it: `rust CALL: CLAUSE, ..` for clauses of a public call, `agda NAME, ..` for
 definitions. A name may have its file or crate in front, `Plays.StopsAt` or `bidi_play.play`, and has to be the only one.
-The edits are the names in the table under "Wrong bodies".
+The edits are the names in the table under "Wrong bodies"; those in bold are in the folders `must-fail` that the gate tries.
 """
 import re
 import sys
@@ -95,12 +96,14 @@ def made(page):
     return FILES.sub(lambda m: m[1] + files(m[2]), page)
 
 
-def missing_edits(page):
-    """The edits that the page names and that are nowhere."""
-    stems = {path.stem for place in ("crates/*/must-fail/*.edit", "tools/edits/**/*.edit") for path in sources.ROOT.glob(place)}
+def wrong_edits(page):
+    """What is wrong with the edits that the page names: one is nowhere, or those in bold are not those of the gate."""
+    gate, others = ({path.stem for path in sources.ROOT.glob(place)} for place in ("crates/*/must-fail/*.edit", "tools/edits/*/*.edit"))
     table = re.search(r"^## Wrong bodies\n(.*?)(?=^## |\Z)", page, re.M | re.S)[1]
-    rows = [line.rsplit("|", 2)[1] for line in table.splitlines() if line.startswith("| ")]
-    return [name for row in rows[1:] for name in re.findall(r"`(\w+)`", row) if name not in stems]
+    cells = "".join(line.rsplit("|", 2)[1] for line in table.splitlines()[1:] if line.startswith("| "))
+    named, bold = set(re.findall(r"`(\w+)`", cells)), set(re.findall(r"\*\*`(\w+)`\*\*", cells))
+    nowhere = [f"the edit {name} is nowhere" for name in sorted(named - gate - others)]
+    return nowhere + [f"the gate tries {name}, or bold says so wrongly" for name in sorted(bold ^ gate)]
 
 
 def main():
@@ -113,7 +116,7 @@ def main():
     if "--write" in sys.argv:
         PAGE.write_text(right)
         return
-    told = [f"the edit {name} is nowhere" for name in missing_edits(page)]
+    told = wrong_edits(page)
     for mine, source in zip(re.split(r"\n(?=```)", page), re.split(r"\n(?=```)", right)):
         if mine.split() != source.split():
             told.append(f"not as in the source: {mine.splitlines()[0]}")
