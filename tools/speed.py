@@ -1,13 +1,13 @@
 #!/usr/bin/env python3
 """Measures one or two builds of `bidi` by turns:
-speed.py [--growth | --instructions] [--bench WORDS] [--times N] [--only NAME,..] BEFORE [AFTER]
+speed.py [--growth | --instructions | --rows] [--bench WORDS] [--times N] [--only NAME,..] BEFORE [AFTER]
 
 BEFORE, AFTER and what --bench takes are words that start a program. `trials bench` writes each input, and each program reads it N times.
 The table has the least seconds of processor, with those of the system, and the most memory; the output is thrown away meanwhile.
 Then they run once more side by side. The last column of two programs says whether their outputs differ. Below the table stands each
 input for which they do, or for which something is refused that should be done; the status is 1 then. With --growth it prints the
 microseconds of a line beside few and many, and with --instructions the instructions of a line, which valgrind counts. Those do not
-depend on what else the machine does.
+depend on what else the machine does. With --rows it prints the instructions of a status in a play, in a scripted play, and beside rows.
 """
 import argparse
 import ctypes
@@ -123,13 +123,17 @@ def count_instructions(command, path):
     return int(found[1])
 
 
-def instructions(given, chosen):
-    """Prints the instructions of a line: the difference between inputs of 50 and of 550 of what is repeated."""
-    # Valgrind cannot read what a compiler says of the source, so it gets a copy without that.
+def strip(given):
+    """Has the programs stand without what the compiler says of their source, which valgrind cannot read."""
     for place, program in enumerate(given.programs):
         stripped = f"{given.folder}/{place}"
         subprocess.run(["strip", "-o", stripped, program[0]], check=True)
         program[0] = stripped
+
+
+def instructions(given, chosen):
+    """Prints the instructions of a line: the difference between inputs of 50 and of 550 of what is repeated."""
+    strip(given)
     row("a line of", "what grows", "few", "many", "many / few")
     row(*["---"] * 5)
     for what, sizes, workloads in GROWTH[:-1]:
@@ -146,10 +150,32 @@ def instructions(given, chosen):
                 row(title, what, f"{sizes[0]}: {small:,.0f}", f"{sizes[-1]}: {large:,.0f}", f"{large / small:.2f}")
 
 
+def rows(given, chosen):
+    """Prints the instructions of a status in a play, in a scripted play, and beside rows of other methods; and the shares of the first."""
+    strip(given)
+    answers = [f'answer {{"method":"network.m{it}","result":{{}}}}\n' for it in range(1024)]
+    places = [("a play", [], []), ("a scripted play", ["--scripted"], []), ("a scripted play with 1,024 rows", ["--scripted"], answers)]
+    plain = {}
+    row("a status in", "instructions", "of those in a play")
+    row(*["---"] * 3)
+    for title, options, first in places:
+        for place, program in enumerate(given.programs):
+            ends = []
+            for count in (500, 2500):
+                texts = (f'> 1 {{"id":{it},"method":"session.status","params":{{}}}}\n' for it in range(count))
+                with open(given.input.name, "w") as file:
+                    file.writelines(["open 1 /session\n", *first, *texts])
+                ends.append(count_instructions([*program, "play", *options], given.input.name))
+            each = (ends[1] - ends[0]) / 2000
+            share = each / plain.setdefault(place, each)
+            row(title + ", after" * place, f"{each:,.0f}", f"{share:.3f}")
+
+
 words = argparse.ArgumentParser(usage=__doc__)
 words.add_argument("programs", nargs="+", type=shlex.split)
 words.add_argument("--growth", action="store_true")
 words.add_argument("--instructions", action="store_true")
+words.add_argument("--rows", action="store_true")
 words.add_argument("--bench", type=shlex.split, default=["crates/trials/out/trials", "bench"])
 words.add_argument("--times", type=int, default=3)
 words.add_argument("--only", type=lambda text: text.split(","))
@@ -157,5 +183,5 @@ given = words.parse_args()
 ctypes.CDLL(None).prctl(36, 1)  # PR_SET_CHILD_SUBREAPER
 with tempfile.NamedTemporaryFile() as given.input, tempfile.TemporaryDirectory() as given.folder:
     pick = lambda text: [it.split() for it in text.split(",") if not given.only or it.split()[0] in given.only]
-    table = growth if given.growth else instructions if given.instructions else measure
+    table = growth if given.growth else instructions if given.instructions else rows if given.rows else measure
     raise SystemExit(table(given, pick))

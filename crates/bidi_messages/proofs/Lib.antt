@@ -1,5 +1,6 @@
 pub mod EnvelopeLemmas
 pub mod ReadingLemmas
+pub mod ValueLemmas
 pub mod VerdictLemmas
 pub mod SendingLemmas
 pub mod CommandLemmas

@@ -1,5 +1,6 @@
 -- Each text has one verdict, and the text of a valid command is accepted as that command.
-use Rattle.std.proofs.Common.{◌≡◌, ◌∙◌, ℕ, List, Some, None, refl, sym, ap, subst}
+use Rattle.std.proofs.Common.{◌≡◌, ◌∙◌, ℕ, List, Some, None, Result, Ok, Err, refl, sym, ap, subst}
+use Rattle.std.specs.Prelude.{IfOk}
 use Rattle.bidi_tree.specs.Node.{Node}
 use Rattle.bidi_shape.specs.Name.{command}
 use Rattle.bidi_shape.specs.Term.{rule}
@@ -42,3 +43,9 @@ module _ (shape : ShapeOf Command) (of : shape.rule ≡ rule command) (s : List 
   -- a text without a tree has no other verdict
   pub no_tree_as : command_tree s ≡ None → (c : Command) → shape.well c → command_tree s ≡ Some (shape.tree_of c) → ⊥
   no_tree_as none c good also = none_some (sym none ∙ also)
+
+-- if a verdict is allowed, no other is
+pub no_other : {T E : Type 0} (s : List ℕ) (view : T → Verdict) (r : Result T E) → IfOk r (λ v. IsVerdict s (view v))
+    → IfOk r (λ v. (w : Verdict) → IsVerdict s w → w ≡ view v)
+no_other s view (Ok v) is = λ w other. one_verdict other is
+no_other s view (Err e) is = tt

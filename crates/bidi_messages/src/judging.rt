@@ -1,7 +1,10 @@
 //! Deciding whether a text is a command.
-ghost use Rattle.std.specs.Prelude.{◌≡◌, IfOk, option_map};
+ghost use Rattle.std.specs.Prelude.{◌≡◌, ◌&&◌, ℕ, List, length, nat_le, Some, IfOk, option_map};
+ghost use Rattle.json.specs.Json.{document};
+ghost use Rattle.json.specs.Value.{value_view};
 ghost use Rattle.bidi_tree.specs.Kind.{text_in};
-ghost use Rattle.bidi_tree.specs.Json.{parsed};
+ghost use Rattle.bidi_tree.specs.Json.{parsed, stands_whole};
+ghost use Rattle.bidi_shape.specs.Limits.{most_bytes};
 ghost use Rattle.bidi_messages.specs.Verdict as judged;
 ghost use Rattle.bidi_messages.specs.View.{verdict_of, IsWell, AcceptsAs};
 ghost use Rattle.bidi_messages.specs.declared.command.Command.{Command};
@@ -10,9 +13,12 @@ use crate::command::Command;
 use bidi_methods::Method;
 use bidi_params::ErrorCode;
 use bidi_shape::{MAX_BYTES, Named, Parsed, Shape, ShapeFault};
-use bidi_tree::{JsUint, ReadFault, parse};
+use bidi_tree::{JsUint, ReadFault, is_parsed_whole, parse};
 use json::{Scratch, Value};
 use std::alloc::{AllocError, Global};
+
+/// The most levels of a text that is read.
+const MOST_LEVELS: usize = 127;
 
 /// The verdict on a text: it is a command, or it is refused with the id and the code of an error.
 #[derive(Drop)]
@@ -75,12 +81,60 @@ pub fn judge_with<'a>(
             code: ErrorCode::InvalidArgument,
         });
     };
-    match Command::from_tree(alloc, &tree) {
+    verdict_on(alloc, &tree)
+}
+
+/// Decides as [`judge`] does on a text whose JSON value is at hand.
+///
+/// The text is read again, with the scratch, only if it is too long, or if the value has a number that is not a whole number in range
+/// or nests past 127 levels.
+///
+/// # Errors
+/// No memory: an allocation failed.
+pub fn judge_value<'a>(
+    alloc: Global,
+    text: &'a str,
+    value: &Value<'_>,
+    scratch: &'a mut Scratch,
+) -> Result<Verdict, AllocError>
+    // The value is that of the text.
+    requires { document text.now ≡ Some (value_view value.now) }
+    // The verdict is one that the definition allows for this text.
+    ensures verdict { IfOk result (λ v. judged.IsVerdict text.now (verdict_of ⟦<Command as Shape>⟧.shape v)) }
+    // The definition allows no other verdict for this text.
+    ensures no_other { IfOk result (λ v. (w : judged.Verdict) → judged.IsVerdict text.now w → w ≡ verdict_of ⟦<Command as Shape>⟧.shape v) }
+    // A command that is accepted is valid, so it has a text.
+    ensures well { IfOk result (IsWell ⟦<Command as Shape>⟧.shape) }
+    // The text of a valid command is accepted as that command.
+    ensures again { (c : Command) → IfOk result (AcceptsAs ⟦<Command as Shape>⟧.shape text.now c) }
+{
+    if !is_read_as(text, value) {
+        return judge_with(alloc, text, scratch);
+    }
+    verdict_on(alloc, value)
+}
+
+/// Whether a text is within the limits of a command, if this is its value, and has whole numbers only.
+fn is_read_as(text: &str, value: &Value<'_>) -> bool
+    ensures { result ≡ (nat_le (length text.now) most_bytes && stands_whole (value_view value.now) 127) }
+{
+    text.len() <= MAX_BYTES && is_parsed_whole(value, MOST_LEVELS)
+}
+
+/// The verdict on each text that has the tree of this value.
+fn verdict_on(alloc: Global, tree: &Value<'_>) -> Result<Verdict, AllocError>
+    ensures verdict { (s : List ℕ) → judged.command_tree s ≡ Some (parsed tree.now)
+        → IfOk result (λ v. judged.IsVerdict s (verdict_of ⟦<Command as Shape>⟧.shape v)) }
+    ensures well { IfOk result (IsWell ⟦<Command as Shape>⟧.shape) }
+    ensures again { (s : List ℕ) (c : Command) → judged.command_tree s ≡ Some (parsed tree.now)
+        → IfOk result (AcceptsAs ⟦<Command as Shape>⟧.shape s c) }
+{
+    match Command::from_tree(alloc, tree) {
         Ok(command) => Ok(Verdict::Accepted(command)),
         Err(ShapeFault::NoMemory) => Err(AllocError),
         Err(ShapeFault::NoFit) => Ok(Verdict::Refused {
-            id: echoed_id(&tree),
-            code: refusal_code(&tree),
+            id: echoed_id(tree),
+            code: refusal_code(tree),
         }),
     }
 }

@@ -10,7 +10,8 @@
 //!   then reads the result of a [`Response`], by the method of the command that it answers.
 //! - [`response_id`] recognizes a response quickly, without making a message of it.
 //!
-//! [`judge_with`] and [`read_message_with`] use a scratch that the caller keeps from text to text.
+//! [`judge_with`] and [`read_message_with`] use a scratch that the caller keeps from text to text, and [`judge_value`] takes a value
+//! that was read before.
 //!
 //! # Example
 //! `judge(alloc, text)?` accepts `{"id":1,"method":"session.status","params":{}}`. It refuses
@@ -47,7 +48,7 @@ pub use bidi_params::ErrorCode;
 pub use bidi_shape::Named;
 pub use command::Command;
 pub use event::Event;
-pub use judging::{Verdict, judge, judge_with};
+pub use judging::{Verdict, judge, judge_value, judge_with};
 pub use message::{ErrorResponse, Message, Response};
 pub use response_reading::response_id;
 pub use sending::{error_text, event_text, response_around, response_text};

@@ -73,7 +73,8 @@ line_taken l old new t is can plain takes brings = record {
       let ok = taken.0.ok in
       (taken.1, (ok.0, ok.1, λ h s. ((ok.2 h s).0, (ok.2 h s).2)));
   plays = λ lines text p.
-      performed_more old new lines (string_bytes t.line) text (outcome_text (script_of new.script) (outcome_of t.outcome)) l t.outcome p is can plain takes refl;
+      performed_more old new lines (string_bytes t.line) text (outcome_text (script_of new.script) (outcome_of t.outcome)) l t.outcome p
+      (record { says = is; can = can; plain = plain }) takes refl;
 }
 
 -- ---- texts that a line can hold

@@ -1,5 +1,7 @@
 //! How a message of a client is answered.
-ghost use Rattle.std.specs.Prelude.{◌≡◌, List, map, false, IfOk, OnOk, OnErr};
+ghost use Rattle.std.specs.Prelude.{◌≡◌, List, map, false, Some, IfOk, IfSome, OnOk, OnErr};
+ghost use Rattle.json.specs.Json.{document};
+ghost use Rattle.json.specs.Value.{value_view};
 ghost use Rattle.bidi_tree.specs.Node.{Node};
 ghost use Rattle.bidi_methods.specs.Method.{method_text};
 ghost use Rattle.bidi_messages.specs.Command.{method_in};
@@ -20,32 +22,36 @@ use crate::refusing::{only, refuse};
 use crate::state::State;
 use crate::turn::Asker;
 use bidi_browser::Refusal;
-use bidi_messages::{Command, CommandData, ErrorCode, Method, Payload, Verdict, judge_with};
+use bidi_messages::{
+    Command, CommandData, ErrorCode, Method, Payload, Verdict, judge_value, judge_with,
+};
 use bidi_params::session::NewParameters;
 use bidi_sessions::{Attachment, Sent};
 use bidi_shape::Shape;
 use bidi_tree::JsUint;
-use json::Scratch;
+use json::{Scratch, Value};
 use std::alloc::{AllocError, Global};
 
 impl State {
     ghost use Rattle.bidi_remote.specs.State.Stands.{AgreeWith, Keeps, IsShort, Takes};
 
-    /// Reads a text as a command and answers it, if its connection is open.
+    /// Reads a text as a command and answers it, if its connection is open. The value is that of the text, if it was read before.
     pub(crate) fn hear(
         &mut self,
         alloc: Global,
         conn: JsUint,
         text: &str,
+        value: Option<&Value<'_>>,
         scratch: &mut Scratch,
     ) -> Result<Vec<Sent>, AllocError>
+        requires { IfSome value (λ v. document text.now ≡ Some (value_view v.now)) }
         ensures ok { IfOk result (λ sent. (v : judged.Verdict) × IsVerdict text.now v × ((h : List Input) → IsShort h → AgreeWith self.old (deeds h)
             → Takes self.new (map sent_of sent.items) h (Heard conn.value v))) }
         ensures err { OnErr result (Keeps self.old self.new) }
         ensures answered { (h : List Input) (v : judged.Verdict) → IsShort h
             → AgreeWith self.old (deeds h) → IsVerdict text.now v → OnOk result (IsAnsweredOnce (deeds h) (Heard conn.value v)) }
     {
-        let verdict = judge_with(alloc, text, scratch)?;
+        let verdict = judge_read(alloc, text, value, scratch)?;
         self.settle(alloc, conn, &verdict)
     }
 
@@ -115,5 +121,23 @@ impl State {
             Err(Refusal::Code(code)) => refuse(alloc, asker.conn, Some(asker.id), code),
             Err(Refusal::NoMemory) => Err(AllocError),
         }
+    }
+}
+
+// The verdict on a text. The value is that of the text, if it was read before.
+fn judge_read(
+    alloc: Global,
+    text: &str,
+    value: Option<&Value<'_>>,
+    scratch: &mut Scratch,
+) -> Result<Verdict, AllocError>
+    requires { IfSome value (λ v. document text.now ≡ Some (value_view v.now)) }
+    ensures verdict { IfOk result (λ v. IsVerdict text.now (verdict_of ⟦<Command as Shape>⟧.shape v)) }
+    ensures no_other { IfOk result (λ v. (w : judged.Verdict) → IsVerdict text.now w → w ≡ verdict_of ⟦<Command as Shape>⟧.shape v) }
+    ensures well { IfOk result (IsWell ⟦<Command as Shape>⟧.shape) }
+{
+    match value {
+        Some(value) => judge_value(alloc, text, value, scratch),
+        None => judge_with(alloc, text, scratch),
     }
 }

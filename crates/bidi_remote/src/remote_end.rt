@@ -1,5 +1,7 @@
 //! The remote end, with its public calls.
-ghost use Rattle.std.specs.Prelude.{◌≡◌, ℕ, ◌<◌, ◌≤◌, ◌↔◌, List, [], ◌∷◌, ◌++◌, map, string_bytes, true, IsTrue, IfOk, OnOk, OnErr, IsOk, IsErrOf, length};
+ghost use Rattle.std.specs.Prelude.{◌≡◌, ℕ, ◌<◌, ◌≤◌, ◌↔◌, List, [], ◌∷◌, ◌++◌, map, string_bytes, true, Some, IsTrue, IfOk, OnOk, OnErr, IsOk, IsErrOf, length};
+ghost use Rattle.json.specs.Json.{document};
+ghost use Rattle.json.specs.Value.{value_view};
 ghost use Rattle.bidi_sessions.specs.Step as steps;
 ghost use Rattle.bidi_remote.specs.Machine.Messages.{AllReadBack};
 ghost use Rattle.bidi_sessions.specs.View.{page_of, step_of, sent_of};
@@ -20,7 +22,7 @@ use bidi_browser::Top;
 use bidi_messages::{ErrorCode, EventName};
 use bidi_sessions::{PageStep, Sent, Step};
 use bidi_tree::JsUint;
-use json::Scratch;
+use json::{Scratch, Value};
 use std::alloc::{AllocError, Global};
 use std::rc::Rc;
 use thiserror::Error;
@@ -162,7 +164,45 @@ impl RemoteEnd {
         }
         let sent = self
             .state
-            .take_text(self.alloc, conn, text, self.scratch.as_mut())?;
+            .take_text(self.alloc, conn, text, None, self.scratch.as_mut())?;
+        self.count += 1;
+        Ok(sent)
+    }
+
+    /// Takes a text message as [`RemoteEnd::hear`] does. Its JSON value is lent too, so that the text is not read again.
+    ///
+    /// # Errors
+    /// The remote end is then as it was.
+    /// 1. `NoMemory`: an allocation failed.
+    /// 2. `WornOut`: 1,000,000,000 steps were accepted.
+    pub fn hear_value(
+        &mut self,
+        conn: JsUint,
+        text: &str,
+        value: &Value<'_>,
+    ) -> Result<Vec<Sent>, RemoteFault>
+        // The value is that of the text.
+        requires { document text.now ≡ Some (value_view value.now) }
+        // The text is one input. After each history that the end stands for, it answers as the machine does.
+        ensures ok { IfOk result (λ sent. (i : Input) × IsHeardAs (steps.Text conn.value text.now) i
+            × ((h : List Input) → StandsFor self.old h
+            → (map sent_of sent.items ≡ out h i) × StandsFor self.new (i ∷ h))) }
+        // Each text that is sent is the text of a message, and reads back as that message.
+        ensures reads_back { (h : List Input) → StandsFor self.old h → IfOk result (λ sent. AllReadBack (map sent_of sent.items)) }
+        // A command that does something gets one reply, with a result that fits the rule of its method.
+        ensures answered { (h : List Input) (i : Input) → StandsFor self.old h → IsHeardAs (steps.Text conn.value text.now) i
+            → OnOk result (IsAnsweredOnce (deeds h) i) }
+        // After an error, the end stands for the histories that it stood for before.
+        ensures err { OnErr result ((h : List Input) → StandsFor self.old h → StandsFor self.new h) }
+        // `WornOut` comes exactly if the end has accepted `most_steps` steps.
+        ensures worn_out { (h : List Input) → StandsFor self.old h → IsErrOf result RemoteFault.WornOut ↔ (most_steps ≤ length h) }
+    {
+        if self.count >= MOST_STEPS {
+            return Err(RemoteFault::WornOut);
+        }
+        let sent = self
+            .state
+            .take_text(self.alloc, conn, text, Some(value), self.scratch.as_mut())?;
         self.count += 1;
         Ok(sent)
     }

@@ -1,5 +1,7 @@
 //! How a step is taken, and how a turn that was decided is put in place.
-ghost use Rattle.std.specs.Prelude.{◌≡◌, ◌∷◌, ℕ, List, map, Ok, IsTrue, IfOk, IfSome, OnOk, OnErr, IsOk};
+ghost use Rattle.std.specs.Prelude.{◌≡◌, ◌∷◌, ℕ, List, map, Ok, Some, IsTrue, IfOk, IfSome, OnOk, OnErr, IsOk};
+ghost use Rattle.json.specs.Json.{document};
+ghost use Rattle.json.specs.Value.{value_view};
 ghost use Rattle.bidi_contexts.specs.Acts.{Act};
 ghost use Rattle.bidi_browser.specs.View.{result_tree};
 ghost use Rattle.bidi_sessions.specs.Step as steps;
@@ -15,7 +17,7 @@ use crate::telling::tell;
 use crate::turn::{Change, Turn};
 use bidi_sessions::{Sent, Step, distinct};
 use bidi_tree::JsUint;
-use json::Scratch;
+use json::{Scratch, Value};
 use std::alloc::{AllocError, Global};
 
 impl State {
@@ -47,27 +49,29 @@ impl State {
             }
             Step::Open(conn, resource) => self.open(alloc, conn, resource.as_str()),
             Step::Drop(conn) => self.drop_connection(alloc, conn),
-            Step::Text(conn, text) => self.hear(alloc, conn, text.as_str(), scratch),
+            Step::Text(conn, text) => self.hear(alloc, conn, text.as_str(), None, scratch),
             Step::NotText(conn) => self.hear_no_text(alloc, conn),
             Step::Page(page) => self.take_page(alloc, page),
         }
     }
 
-    /// Takes a text message, and returns what is sent.
+    /// Takes a text message, and returns what is sent. The value is that of the text, if it was read before.
     pub(crate) fn take_text(
         &mut self,
         alloc: Global,
         conn: JsUint,
         text: &str,
+        value: Option<&Value<'_>>,
         scratch: &mut Scratch,
     ) -> Result<Vec<Sent>, AllocError>
+        requires { IfSome value (λ v. document text.now ≡ Some (value_view v.now)) }
         ensures ok { IfOk result (λ sent. (i : Input) × IsHeardAs (steps.Text conn.value text.now) i
             × ((h : List Input) → IsShort h → AgreeWith self.old (deeds h) → Takes self.new (map sent_of sent.items) h i)) }
         ensures err { OnErr result (Keeps self.old self.new) }
         ensures answered { (h : List Input) (i : Input) → IsShort h → AgreeWith self.old (deeds h)
             → IsHeardAs (steps.Text conn.value text.now) i → OnOk result (IsAnsweredOnce (deeds h) i) }
     {
-        self.hear(alloc, conn, text, scratch)
+        self.hear(alloc, conn, text, value, scratch)
     }
 
     /// Takes a turn that was decided: makes the texts, makes room for the change, and puts it in place.

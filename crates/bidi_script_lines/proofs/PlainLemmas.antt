@@ -1,6 +1,6 @@
 -- A line of a play in a scripted play.
 use Rattle.std.proofs.Common.{◌≡◌, ℕ, true, false, true≢false, List, [], ◌∷◌, ◌++◌, length, reverse, arith, Option, Some, None, Ok, refl, sym, ◌∙◌, ap, subst}
-use Rattle.std.specs.Prelude.{IsSomeAnd}
+use Rattle.std.specs.Prelude.{IsSomeAnd, IfSome, IfNone, MatchOption}
 use Rattle.std.proofs.Math.Nat.{lt_of_not-le}
 use Rattle.std.proofs.lemmas.List.{length-reverse}
 use Rattle.bidi_sessions.specs.Step.{Step}
@@ -15,7 +15,9 @@ use Rattle.bidi_scripted.specs.declared.scripted_end.ScriptedEnd.{ScriptedEnd}
 use Rattle.bidi_script_lines.specs.Outcomes.{outcome_of, outcome_text}
 use Rattle.bidi_script_lines.specs.Performing.{TakesStep}
 use Rattle.bidi_script_lines.specs.ScriptLines.{Line, Plain, is_plain, script_line_of, CanBeWritten}
-use Rattle.bidi_script_lines.specs.ScriptPlayers.{HasPlayedScript}
+use Rattle.bidi_script_lines.specs.ScriptPlayers.{HasPlayedScript, IsSaid, SaysNoLine}
+use Rattle.bidi_script_lines.specs.View.{said_by}
+use Rattle.bidi_script_lines.specs.declared.script_line.ScriptLine.{ScriptLine}
 use Rattle.bidi_script_lines.specs.declared.outcome.Outcome as declared
 use Rattle.bidi_script_lines.proofs.ScriptPlayLemmas.{script_played_more}
 
@@ -33,6 +35,20 @@ plain_step l p = absurd (true≢false (sym p))
 pub plain_said : (s : Step) → CanBeWritten (Plain s) → CanBeSaid s
 plain_said s w = record { parts = w.parts; utf8 = w.utf8; one_line = w.one_line; short = w.short }
 
+-- and back
+pub said_plain : (s : Step) → CanBeSaid s → CanBeWritten (Plain s)
+said_plain s w = record { parts = w.parts; utf8 = w.utf8; one_line = w.one_line; short = w.short }
+
+pub same_plain : (s t : Step) → Plain s ≡ Plain t → s ≡ t
+same_plain s t e = cc
+
+-- a line that was read, or none
+pub is_said : (o : Option ScriptLine) (line : List ℕ) → IfSome o (λ l. CanBeWritten (said_by l) × (line ≡ script_line_of (said_by l)))
+    → IfNone o ((l : Line) → CanBeWritten l → line ≡ script_line_of l → ⊥)
+    → ((s : Step) → CanBeSaid s → line ≡ line_of s → IsSomeAnd o (λ l. is_plain (said_by l) ≡ true)) → MatchOption o (SaysNoLine line) (λ l. IsSaid line (said_by l))
+is_said None line some none plain = none
+is_said (Some l) line some none plain = record { says = some.1; can = some.0; plain = plain }
+
 -- a step more that is played over an empty script
 pub plain_more : (old new : ScriptedEnd) (o : declared.Outcome) (lines : List (List ℕ)) (line text bytes : List ℕ) (s : Step)
     → TakesStep s old new (Ok o) → CanBeSaid s → line ≡ line_of s → bytes ≡ outcome_text no_script (outcome_of o) → HasPlayed old.end lines text
@@ -46,14 +62,13 @@ plain_more old new o lines line text bytes s takes can says wrote p =
 
 -- a line more that is performed
 pub performed_more : (old new : ScriptedEnd) (lines : List (List ℕ)) (line text bytes : List ℕ) (l : Line) (o : declared.Outcome) → HasPlayedScript old lines text
-    → line ≡ script_line_of l → CanBeWritten l → ((s : Step) → CanBeSaid s → line ≡ line_of s → is_plain l ≡ true)
-    → ((s : Step) → l ≡ Plain s → script_of old.script ≡ no_script → TakesStep s old new (Ok o) × (script_of new.script ≡ no_script))
+    → IsSaid line l → ((s : Step) → l ≡ Plain s → script_of old.script ≡ no_script → TakesStep s old new (Ok o) × (script_of new.script ≡ no_script))
     → bytes ≡ outcome_text (script_of new.script) (outcome_of o) → HasPlayedScript new (lines ++ line ∷ []) (text ++ bytes)
-performed_more old new lines line text bytes l o p is can plain takes wrote =
-    script_played_more old new lines line text bytes l p is can (λ s said says played empty.
-    let (t, same) = plain_step l (plain s said says) in
+performed_more old new lines line text bytes l o p is takes wrote =
+    script_played_more old new lines line text bytes l p is.says is.can (λ s said says played empty.
+    let (t, same) = plain_step l (is.plain s said says) in
     let taken = takes t same empty in (
-      plain_more old new o lines line text bytes t taken.0 (plain_said t (subst CanBeWritten same can)) (is ∙ ap script_line_of same)
+      plain_more old new o lines line text bytes t taken.0 (plain_said t (subst CanBeWritten same is.can)) (is.says ∙ ap script_line_of same)
           (wrote ∙ ap (λ z. outcome_text z (outcome_of o)) taken.1) played,
       taken.1,
     ))

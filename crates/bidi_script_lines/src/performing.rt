@@ -2,7 +2,7 @@
 ghost use Rattle.std.specs.Prelude.{◌≡◌, ◌≤◌, ◌⊎◌, ℕ, List, [], ◌∷◌, length, true, false, IfOk, OnOk, IfSome, IfNone, OnErr, IsErrOf, map, string_bytes};
 ghost use Rattle.std.specs.List.{list_all};
 ghost use Rattle.bidi_sessions.specs.Limits.{most_steps};
-ghost use Rattle.bidi_sessions.specs.Step.{Step as Taking};
+ghost use Rattle.bidi_sessions.specs.Step.{Step as Taking, Text as Hearing};
 ghost use Rattle.bidi_sessions.specs.View.{step_of, sent_of};
 ghost use Rattle.bidi_remote.specs.Machine.History.{Input, Drop as Dropping};
 ghost use Rattle.bidi_remote.specs.Machine.Sent.{Text};
@@ -84,6 +84,22 @@ fn take_step(end: &mut ScriptedEnd, step: Step) -> Result<Outcome, RemoteFault>
     ensures worn_out { (h : List Input) → StandsFor end.old.end h → IsErrOf result RemoteFault.WornOut → most_steps ≤ length h }
 {
     match end.step(step) {
+        Ok(taken) => Ok(of_taken(taken)),
+        Err(fault) => Err(fault),
+    }
+}
+
+/// Takes a message that came in on a connection, and returns what it brings about. The message is lent.
+///
+/// # Errors
+/// The scripted end is then as it was.
+/// 1. `NoMemory`: an allocation failed.
+/// 2. `WornOut`: the remote end takes no more steps.
+pub(crate) fn hear(end: &mut ScriptedEnd, conn: JsUint, text: &str) -> Result<Outcome, RemoteFault>
+    ensures { script_of end.old.script ≡ no_script
+        → TakesStep (Hearing conn.value text.now) end.old end.new result × (script_of end.new.script ≡ no_script) }
+{
+    match end.hear(conn, text) {
         Ok(taken) => Ok(of_taken(taken)),
         Err(fault) => Err(fault),
     }

@@ -1,19 +1,24 @@
 //! Scripted plays: lines in, lines of what is sent out.
-ghost use Rattle.std.specs.Prelude.{◌≡◌, ◌+◌, IfErr, OnOk, IsTrue, MatchResult};
+ghost use Rattle.std.specs.Prelude.{◌≡◌, ◌+◌, false, IfOk, IfErr, IsErrOf, OnOk, IsTrue, MatchOption, MatchResult};
 ghost use Rattle.std.specs.Io.KnownBytes.{IsAtEnd};
 ghost use Rattle.bidi_lines.specs.Devices.{Moves};
+ghost use Rattle.bidi_lines.specs.Feeds.{has_feed};
 ghost use Rattle.bidi_lines.specs.Stops.{StopsAt, failed_reads, failed_writes};
 ghost use Rattle.bidi_play.specs.Plays.{lines_fault};
-ghost use Rattle.bidi_script_lines.specs.ScriptPlayers.{script_player_answers};
+ghost use Rattle.bidi_play.specs.Lines.{CanBeSaid, line_of};
+ghost use Rattle.bidi_sessions.specs.Step.{Text as Hearing};
+ghost use Rattle.bidi_script_lines.specs.View.{said_by};
+ghost use Rattle.bidi_script_lines.specs.ScriptPlayers.{IsPerformed, IsSaid, SaysALine, SaysNoLine, script_player_answers};
 ghost use Rattle.bidi_script_lines.specs.ScriptedPlays.{ScriptedPlaysAll, script_run};
 
-use crate::outcome::outcome_lines;
-use crate::performing::perform;
-use crate::script_line::read_script_line;
+use crate::outcome::{Outcome, outcome_lines};
+use crate::performing::{hear, perform};
+use crate::script_line::{ScriptLine, read_script_line};
 use bidi_lines::{AnswerFault, Answerer, Sink, Source, answer_lines};
-use bidi_play::PlayFault;
+use bidi_play::{PlayFault, heard_text};
 use bidi_remote::RemoteFault;
 use bidi_scripted::ScriptedEnd;
+use bidi_tree::JsUint;
 use std::alloc::Global;
 
 /// Plays the lines of the source over a scripted end, and writes what is sent for each line, in order, to the sink.
@@ -71,13 +76,65 @@ impl Answerer for ScriptPlayer {
         _number: u64,
         line: &[u8],
     ) -> Result<Option<Vec<u8>>, AnswerFault> {
-        let Some(said) = read_script_line(alloc, line)? else {
-            return Ok(None);
-        };
-        match perform(alloc, &mut self.end, said) {
-            Ok(outcome) => Ok(Some(outcome_lines(alloc, &self.end, outcome)?)),
+        match take_line(alloc, &mut self.end, line) {
+            Ok(None) => Ok(None),
+            Ok(Some(outcome)) => Ok(Some(outcome_lines(alloc, &self.end, outcome)?)),
             Err(RemoteFault::NoMemory) => Err(AnswerFault::NoMemory),
             Err(RemoteFault::WornOut) => Err(AnswerFault::WornOut),
         }
+    }
+}
+
+// Takes a line, and returns what it brings about; `None` if it is not one of a scripted play. The text of a client is not copied.
+fn take_line(
+    alloc: Global,
+    end: &mut ScriptedEnd,
+    line: &[u8],
+) -> Result<Option<Outcome>, RemoteFault>
+    requires { has_feed line.now ≡ false }
+    ensures ok { IfOk result (λ found. MatchOption found (SaysNoLine line.now) (λ o. IsPerformed line.now end.old end.new o)) }
+    ensures says { IsErrOf result RemoteFault.WornOut → SaysALine line.now }
+{
+    if let Some((conn, text)) = heard_text(line) {
+        return take_heard(end, line, conn, text);
+    }
+    let said = read_script_line(alloc, line)?;
+    take_said(alloc, end, line, said)
+}
+
+// Takes the line of a text that came in on a connection.
+fn take_heard(
+    end: &mut ScriptedEnd,
+    line: &[u8],
+    conn: JsUint,
+    text: &str,
+) -> Result<Option<Outcome>, RemoteFault>
+    requires { CanBeSaid (Hearing conn.value text.now) × (line.now ≡ line_of (Hearing conn.value text.now)) }
+    ensures ok { IfOk result (λ found. MatchOption found (SaysNoLine line.now) (λ o. IsPerformed line.now end.old end.new o)) }
+    ensures says { IsErrOf result RemoteFault.WornOut → SaysALine line.now }
+{
+    match hear(end, conn, text) {
+        Ok(outcome) => Ok(Some(outcome)),
+        Err(fault) => Err(fault),
+    }
+}
+
+// Takes a line that was read, if it was one of a scripted play.
+fn take_said(
+    alloc: Global,
+    end: &mut ScriptedEnd,
+    line: &[u8],
+    said: Option<ScriptLine>,
+) -> Result<Option<Outcome>, RemoteFault>
+    requires { MatchOption said (SaysNoLine line.now) (λ l. IsSaid line.now (said_by l)) }
+    ensures ok { IfOk result (λ found. MatchOption found (SaysNoLine line.now) (λ o. IsPerformed line.now end.old end.new o)) }
+    ensures says { IsErrOf result RemoteFault.WornOut → SaysALine line.now }
+{
+    let Some(said) = said else {
+        return Ok(None);
+    };
+    match perform(alloc, end, said) {
+        Ok(outcome) => Ok(Some(outcome)),
+        Err(fault) => Err(fault),
     }
 }

@@ -24,8 +24,9 @@ use Rattle.bidi_scripted.specs.Sending.{answer_sent}
 use Rattle.bidi_scripted.specs.Subscriptions.{Named}
 use Rattle.bidi_scripted.specs.Script.{Script, no_script, is_plain, has_room_for_command, with_use, with_held}
 use Rattle.bidi_scripted.specs.Fate.{Fate, HandedOn, Answered, Held, Unheld, AsksNames, asks_names, by_action, by_row, by_command, fate, after_step}
-use Rattle.bidi_scripted.specs.Becomes.{Becomes, IsHandedOn, IsTaken, IsFound, found_names, TakesPart, sent_by}
+use Rattle.bidi_scripted.specs.Becomes.{Becomes, IsHandedOn, IsHeard, IsTaken, IsFound, found_names, TakesPart, sent_by}
 use Rattle.bidi_rows.specs.declared.row.Row as declared_row
+use Rattle.bidi_sessions.specs.declared.step.Sent as declared_sent
 use Rattle.bidi_rows.specs.View.{row_of}
 use Rattle.bidi_sessions.proofs.ListLemmas.{some-same}
 use Rattle.bidi_scripted.proofs.UseLemmas.{is_for, found-none}
@@ -106,12 +107,15 @@ same_err f w i = cc
 pub worn-ok : {T U E P : Type 0} (x : T) (y : U) (w : E) → IsErrOf (Ok x) w ↔ P → IsErrOf (Ok y) w ↔ P
 worn-ok x y w e = (λ i. absurd (ok_err i), λ p. absurd (ok_err (e.1 p)))
 
+err_of : {T E : Type 0} (f w : E) → f ≡ w → IsErrOf {T = T} (Err f) w
+err_of f w i = cc
+
 -- an error is the same beside any success
+pub err-beside : {T U E : Type 0} (f w : E) → IsErrOf {T = U} (Err f) w → IsErrOf {T = T} (Err f) w
+err-beside {T = T} {U = U} f w i = err_of {T = T} f w (same_err {T = U} f w i)
+
 pub worn-err : {T U E P : Type 0} (f w : E) → IsErrOf {T = T} (Err f) w ↔ P → IsErrOf {T = U} (Err f) w ↔ P
-worn-err {T = T} {U = U} {E = E} f w e = (λ i. e.0 (err_of {T = T} f w (same_err {T = U} f w i)), λ p. err_of {T = U} f w (same_err {T = T} f w (e.1 p)))
-  where
-    err_of : {T : Type 0} (f w : E) → f ≡ w → IsErrOf {T = T} (Err f) w
-    err_of f w i = cc
+worn-err {T = T} {U = U} f w e = (λ i. e.0 (err-beside {T = T} {U = U} f w i), λ p. err-beside {T = U} {U = T} f w (e.1 p))
 
 -- ---- what is handed on
 
@@ -120,6 +124,12 @@ pub handed_on : (step : Step) (old new : RemoteEnd) (script after : Script) (r :
     → IsHandedOn step old new r → after ≡ after_step (deeds h) step script → IfOk r (λ t. Becomes HandedOn h step old script new after t)
 handed_on step old new script after (Err e) h s on same = tt
 handed_on step old new script after (Ok t) h s on same = (on.ok.0, on.ok.1, on.ok.2, on.ok.3, (on.ok.4 h s).0, (on.ok.4 h s).2, same)
+
+-- a message that the remote end heard
+pub heard-on : (c : ℕ) (text : List ℕ) (old new : RemoteEnd) (script : Script) (sent : List declared_sent.Sent) (t : Taken) (h : List Input) → StandsFor old h
+    → IsHeard c text old new sent → t.sent.items ≡ sent → t.is_of_machine ≡ true → t.held ≡ None → Becomes HandedOn h (steps.Text c text) old script new script t
+heard-on c text old new script sent t h s heard same machine held =
+    let it = heard.2 h s in (heard.0, heard.1, held, machine, ap (map sent_of) same ∙ it.0, it.2, refl)
 
 -- what becomes of a step, by another name of its fate
 pub becomes : (f g : Fate) (step : Step) (old new : RemoteEnd) (script after : Script) (r : Result Taken RemoteFault) (h : List Input) → f ≡ g
@@ -279,6 +289,14 @@ hold-held script after c text command id number h step end t room same none held
     (none, held ∙ ap Some is, machine, refl, holds ∙ ap (λ n. with_held c n text (with_use command script)) (sym same))
 
 -- ---- what is found
+
+-- for a message that is no command
+pub no-command : (rows : List declared_row.Row) (known : List (List ℕ)) (text : List ℕ) → (let none : Option Command = None in command_of text ≡ none)
+    → IsFound None rows known text
+no-command rows known text none = λ command is. absurd (none-some (sym none ∙ is))
+  where
+    none-some : {X : Type 0} {x : X} → (let none : Option X = None in none ≡ Some x) → ⊥
+    none-some e = cc
 
 -- for a command for which there is no row
 pub nothing-found : (rows : List declared_row.Row) (known : List (List ℕ)) (text : List ℕ) (command : Command) → command_of text ≡ Some command

@@ -22,6 +22,9 @@ use Rattle.bidi_remote.specs.declared.remote_end.RemoteEnd.{RemoteEnd}
 use Rattle.bidi_scripted.specs.declared.scripted_end.Taken.{Taken}
 use Rattle.bidi_scripted.specs.declared.finding.Found.{Found}
 use Rattle.bidi_scripted.specs.declared.finding.Found.TheVariants as in_code
+use Rattle.bidi_scripted.specs.declared.finding.Looked.{Looked}
+use Rattle.bidi_scripted.specs.declared.finding.Looked.TheVariants as looked
+use Rattle.bidi_sessions.specs.declared.step.Sent as declared_step
 use Rattle.bidi_scripted.specs.Subscriptions.{Named}
 use Rattle.bidi_scripted.specs.Script.{Script, no_script, with_use, with_held}
 use Rattle.bidi_scripted.specs.Fate.{Fate, HandedOn, Answered, Held, Unheld, AsksNames, asks_names, fate, after_step}
@@ -74,16 +77,27 @@ sent_by past named c id (Answers answer) = Some (answer_sent past named c id ans
 sent_by past named c id Holds = None
 
 -- what is found for a command for which there is no row
-abbrev pub found_names : Bool → Found
-found_names true = in_code.Names
-found_names false = in_code.Nothing
+abbrev pub found_names : Bool → Option Found
+found_names true = Some in_code.Names
+found_names false = None
 
 -- What was found for a text is right: the newest row that is for the command that it is, or else whether it may ask for names.
-abbrev pub IsFound : Found → List declared_row.Row → List (List ℕ) → List ℕ → Type 0
-IsFound (in_code.Row f) rows known s =
+abbrev pub IsFound : Option Found → List declared_row.Row → List (List ℕ) → List ℕ → Type 0
+IsFound (Some (in_code.Row f)) rows known s =
     (f.place < length rows) × (command : Command) × (command_of s ≡ Some command) × (command.id ≡ f.id.value)
     × (position (λ r. matches command (row_of r)) rows ≡ Some f.place)
-IsFound in_code.Names rows known s =
+IsFound (Some in_code.Names) rows known s =
     (command : Command) × (command_of s ≡ Some command) × (find (matches command) (map row_of rows) ≡ None) × (asks_names known command.method ≡ true)
-IsFound in_code.Nothing rows known s =
+IsFound None rows known s =
     (command : Command) → command_of s ≡ Some command → (find (matches command) (map row_of rows) ≡ None) × (asks_names known command.method ≡ false)
+
+-- The remote end heard the text on the connection, and this is what the machine sends for it.
+abbrev pub IsHeard : ℕ → List ℕ → RemoteEnd → RemoteEnd → List declared_step.Sent → Type 0
+IsHeard c s old new sent =
+    (i : Input) × IsHeardAs (steps.Text c s) i
+    × ((h : List Input) → StandsFor old h → (map sent_of sent ≡ out h i) × AllReadBack (map sent_of sent) × StandsFor new (i ∷ h))
+
+-- What came of looking at a text is right: what was found for it; or nothing was, and the remote end heard it.
+abbrev pub IsLooked : List declared_row.Row → List (List ℕ) → ℕ → List ℕ → RemoteEnd → RemoteEnd → Looked → Type 0
+IsLooked rows known c s old new (looked.Found f) = IsFound (Some f) rows known s × (new ≡ old)
+IsLooked rows known c s old new (looked.Heard sent) = IsFound None rows known s × IsHeard c s old new sent.items

@@ -200,7 +200,7 @@ impl ScriptedEnd {
         ensures worn_out { (h : List Input) → StandsFor self.old.end h → IsErrOf result ScriptFault.WornOut → most_steps ≤ length h }
         ensures refused { (held : Option script.Held) → IfErr result (RefusesRelease held) }
     {
-        match self.hear_names(conn, text) {
+        match self.hear_names(conn, text.as_str()) {
             Ok(taken) => {
                 self.script.release(number);
                 Ok(taken)

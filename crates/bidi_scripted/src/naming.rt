@@ -1,5 +1,5 @@
 //! How sessions subscribe to names that are known, beside the remote end.
-ghost use Rattle.std.specs.Prelude.{◌≡◌, ◌<◌, ◌≤◌, [], List, length, IfOk, OnOk, OnErr, IsErrOf, string_bytes, vec_len, vec_capacity};
+ghost use Rattle.std.specs.Prelude.{◌≡◌, ◌<◌, ◌≤◌, [], List, length, IfOk, OnOk, OnErr, IsErrOf, vec_len, vec_capacity};
 ghost use Rattle.bidi_remote.specs.Machine.History.{Input};
 ghost use Rattle.bidi_remote.specs.State.Stands.{StandsFor};
 ghost use Rattle.bidi_sessions.specs.Limits.{most_steps};
@@ -11,7 +11,7 @@ use crate::names::{NamesAsked, NamesWanted, names_asked};
 use crate::replies::{is_success, number_made, user_numbers};
 use crate::scripted_end::{ScriptedEnd, Taken};
 use crate::subscriptions::{NamedSubscription, are_global, count_names};
-use bidi_remote::{RemoteFault, Step};
+use bidi_remote::RemoteFault;
 use bidi_sessions::Scope;
 use bidi_tree::JsUint;
 use std::alloc::AllocError;
@@ -30,30 +30,30 @@ struct Prepared {
 
 impl ScriptedEnd {
     /// Takes a message that may ask for names that are known.
-    pub(crate) fn hear_names(&mut self, conn: JsUint, text: String) -> Result<Taken, RemoteFault>
-        ensures plain { (script_of self.old.script).known ≡ [] → IsHandedOn (steps.Text conn.value (string_bytes text)) self.old.end self.new.end result }
+    pub(crate) fn hear_names(&mut self, conn: JsUint, text: &str) -> Result<Taken, RemoteFault>
+        ensures plain { (script_of self.old.script).known ≡ [] → IsHandedOn (steps.Text conn.value text.now) self.old.end self.new.end result }
         ensures part { (h : List Input) → StandsFor self.old.end h → IfOk result (TakesPart conn.value h (script_of self.old.script) self.new.end (script_of self.new.script)) }
         ensures worn_out { (h : List Input) → StandsFor self.old.end h → IsErrOf result RemoteFault.WornOut → most_steps ≤ length h }
         ensures err { OnErr result ((script_of self.new.script ≡ script_of self.old.script)
             × ((h : List Input) → StandsFor self.old.end h → StandsFor self.new.end h)) }
     {
         if self.script.known.is_empty() {
-            return self.hand_on(Step::Text(conn, text));
+            return self.hand_on_text(conn, text);
         }
         self.hear_known(conn, text)
     }
 
     // Takes a message while names are known.
-    fn hear_known(&mut self, conn: JsUint, text: String) -> Result<Taken, RemoteFault>
+    fn hear_known(&mut self, conn: JsUint, text: &str) -> Result<Taken, RemoteFault>
         ensures part { (h : List Input) → StandsFor self.old.end h → IfOk result (TakesPart conn.value h (script_of self.old.script) self.new.end (script_of self.new.script)) }
         ensures worn_out { (h : List Input) → StandsFor self.old.end h → IsErrOf result RemoteFault.WornOut → most_steps ≤ length h }
         ensures err { OnErr result ((script_of self.new.script ≡ script_of self.old.script)
             × ((h : List Input) → StandsFor self.old.end h → StandsFor self.new.end h)) }
     {
         let Some(session) = self.end.session_of(conn) else {
-            return self.hand_on(Step::Text(conn, text));
+            return self.hand_on_text(conn, text);
         };
-        match self.names_asked(text.as_str(), session) {
+        match self.names_asked(text, session) {
             Ok(asked) => self.take_names(conn, session, text, asked),
             Err(_) => Err(RemoteFault::NoMemory),
         }
@@ -78,7 +78,7 @@ impl ScriptedEnd {
         &mut self,
         conn: JsUint,
         session: u32,
-        text: String,
+        text: &str,
         asked: Option<NamesAsked>,
     ) -> Result<Taken, RemoteFault>
         ensures part { (h : List Input) → StandsFor self.old.end h → IfOk result (TakesPart conn.value h (script_of self.old.script) self.new.end (script_of self.new.script)) }
@@ -87,7 +87,7 @@ impl ScriptedEnd {
             × ((h : List Input) → StandsFor self.old.end h → StandsFor self.new.end h)) }
     {
         match asked {
-            None => self.hand_on(Step::Text(conn, text)),
+            None => self.hand_on_text(conn, text),
             Some(NamesAsked::Subscribe(wanted)) => self.subscribe(conn, session, text, wanted),
             Some(NamesAsked::Unsubscribe(wanted)) => {
                 self.unsubscribe(conn, session, text, wanted)
@@ -101,7 +101,7 @@ impl ScriptedEnd {
         &mut self,
         conn: JsUint,
         session: u32,
-        text: String,
+        text: &str,
         wanted: NamesWanted,
     ) -> Result<Taken, RemoteFault>
         ensures part { (h : List Input) → StandsFor self.old.end h → IfOk result (TakesPart conn.value h (script_of self.old.script) self.new.end (script_of self.new.script)) }
@@ -124,7 +124,9 @@ impl ScriptedEnd {
             };
         }
         match self.prepare(contexts, users) {
-            Ok(prepared) => self.subscribe_to(conn, session, part.unwrap_or(text), names, prepared),
+            Ok(prepared) => {
+                self.subscribe_to(conn, session, part_or(&part, text), names, prepared)
+            }
             Err(fault) => Err(fault),
         }
     }
@@ -151,7 +153,7 @@ impl ScriptedEnd {
         &mut self,
         conn: JsUint,
         session: u32,
-        text: String,
+        text: &str,
         names: Vec<String>,
         prepared: Prepared,
     ) -> Result<Taken, RemoteFault>
@@ -161,7 +163,7 @@ impl ScriptedEnd {
         ensures err { OnErr result ((script_of self.new.script ≡ script_of self.old.script)
             × ((h : List Input) → StandsFor self.old.end h → StandsFor self.new.end h)) }
     {
-        match self.hand_on(Step::Text(conn, text)) {
+        match self.hand_on_text(conn, text) {
             Ok(taken) => {
                 let Prepared { scope, active } = prepared;
                 let number = number_made(&taken.sent, session);
@@ -184,7 +186,7 @@ impl ScriptedEnd {
         &mut self,
         conn: JsUint,
         session: u32,
-        text: String,
+        text: &str,
         wanted: NamesWanted,
     ) -> Result<Taken, RemoteFault>
         ensures part { (h : List Input) → StandsFor self.old.end h → IfOk result (TakesPart conn.value h (script_of self.old.script) self.new.end (script_of self.new.script)) }
@@ -201,9 +203,9 @@ impl ScriptedEnd {
             users: _,
         } = wanted;
         if !are_global(&self.script.named, session, &foreign) {
-            return self.hand_on(Step::Text(conn, text));
+            return self.hand_on_text(conn, text);
         }
-        match self.hand_on(Step::Text(conn, part.unwrap_or(text))) {
+        match self.hand_on_text(conn, part_or(&part, text)) {
             Ok(taken) => {
                 self.script
                     .dismiss_named(is_success(&taken.sent), session, &names);
@@ -218,7 +220,7 @@ impl ScriptedEnd {
         &mut self,
         conn: JsUint,
         session: u32,
-        text: String,
+        text: &str,
         numbers: Vec<u64>,
     ) -> Result<Taken, RemoteFault>
         ensures part { (h : List Input) → StandsFor self.old.end h → IfOk result (TakesPart conn.value h (script_of self.old.script) self.new.end (script_of self.new.script)) }
@@ -226,7 +228,7 @@ impl ScriptedEnd {
         ensures err { OnErr result ((script_of self.new.script ≡ script_of self.old.script)
             × ((h : List Input) → StandsFor self.old.end h → StandsFor self.new.end h)) }
     {
-        match self.hand_on(Step::Text(conn, text)) {
+        match self.hand_on_text(conn, text) {
             Ok(taken) => {
                 self.script
                     .cancel_named(is_success(&taken.sent), session, &numbers);
@@ -262,6 +264,14 @@ impl ScriptedEnd {
             }
         }
         Ok(tops)
+    }
+}
+
+// The text without the names that the profile does not have, if there is one.
+fn part_or<'a>(part: &'a Option<String>, text: &'a str) -> &'a str {
+    match part {
+        Some(part) => part.as_str(),
+        None => text,
     }
 }
 

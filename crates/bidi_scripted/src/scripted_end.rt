@@ -22,7 +22,7 @@ ghost use Rattle.bidi_scripted.specs.Sending.{answer_sent};
 ghost use Rattle.bidi_scripted.specs.View.{script_of};
 
 use crate::emitting::answer_sent;
-use crate::finding::{Found, FoundRow, find};
+use crate::finding::{Found, FoundRow, Looked, look};
 use crate::script::Script;
 use bidi_messages::{ErrorCode, error_text};
 use bidi_remote::{RemoteEnd, RemoteFault, Sent, SentText, Step};
@@ -87,8 +87,8 @@ impl ScriptedEnd {
     /// Takes one step. A message on an open connection that is a command for which there is a row is answered or held by the newest such
     /// row; every other step is handed on to the remote end.
     ///
-    /// Without rows it costs what the step costs the remote end. With rows each message is parsed once more. Only a command of a method
-    /// that has rows is compared with them.
+    /// Without rows it costs what the step costs the remote end. With rows, only a command of a method that has rows is compared with
+    /// them.
     ///
     /// # Errors
     /// The scripted end is then as it was.
@@ -131,12 +131,57 @@ impl ScriptedEnd {
         self.take(step)
     }
 
+    /// Takes a message that came in on a connection. The message is lent, and it is copied only if it is held.
+    ///
+    /// It is as [`ScriptedEnd::step`] with a `Step::Text` of this connection and this message, which would own the message.
+    ///
+    /// # Errors
+    /// The scripted end is then as it was.
+    /// 1. `NoMemory`: an allocation failed.
+    /// 2. `WornOut`: 1,000,000,000 steps were accepted, and the message is handed on or sends events.
+    pub fn hear(&mut self, conn: JsUint, text: &str) -> Result<Taken, RemoteFault>
+        // With an empty script the message is handed on as it came: what the machine sends is sent, and `WornOut` comes as it does there.
+        ensures plain { script_of self.old.script ≡ no_script → IsHandedOn (steps.Text conn.value text.now) self.old.end self.new.end result }
+        // An empty script stays empty.
+        ensures stays_plain { script_of self.old.script ≡ no_script → script_of self.new.script ≡ no_script }
+        // A message that no row answers or holds is handed on as it came, and what the machine sends for it is sent.
+        ensures handed_on { (h : List Input) → StandsFor self.old.end h → fate (deeds h) (script_of self.old.script) (steps.Text conn.value text.now) ≡ HandedOn
+            → IfOk result (λ t. (i : Input) × IsHeardAs (steps.Text conn.value text.now) i × (t.held ≡ None) × (t.is_of_machine ≡ true) × (map sent_of t.sent.items ≡ out h i)
+            × StandsFor self.new.end (i ∷ h) × (script_of self.new.script ≡ after_step (deeds h) (steps.Text conn.value text.now) (script_of self.old.script))) }
+        // For a command that a row answers, the events before, one reply and the events after are sent, and the remote end is unchanged.
+        ensures answered { (h : List Input) (c : ℕ) (command : Command) (answer : row.Answer) → StandsFor self.old.end h
+            → fate (deeds h) (script_of self.old.script) (steps.Text conn.value text.now) ≡ Answered c command answer
+            → IfOk result (λ t. (map sent_of t.sent.items ≡ answer_sent (deeds h) (script_of self.old.script).named c command.id answer) × (t.held ≡ None) × (t.is_of_machine ≡ false)
+            × (self.new.end ≡ self.old.end) × (script_of self.new.script ≡ with_use command (script_of self.old.script))) }
+        // For a command that a row holds, nothing is sent, it gets the next number, and the remote end is unchanged.
+        ensures held { (h : List Input) (c : ℕ) (command : Command) (kept : List ℕ) → StandsFor self.old.end h
+            → fate (deeds h) (script_of self.old.script) (steps.Text conn.value text.now) ≡ Held c command kept
+            → IfOk result (λ t. (t.sent.items ≡ []) × (t.held ≡ Some (script_of self.old.script).next) × (t.is_of_machine ≡ false) × (self.new.end ≡ self.old.end)
+            × (script_of self.new.script ≡ with_held c command.id kept (with_use command (script_of self.old.script)))) }
+        // For a command that a row would hold if there were room, the error `unknown error` is sent, and nothing changes.
+        ensures unheld { (h : List Input) (c : ℕ) (command : Command) → StandsFor self.old.end h
+            → fate (deeds h) (script_of self.old.script) (steps.Text conn.value text.now) ≡ Unheld c command
+            → IfOk result (λ t. (map sent_of t.sent.items ≡ Text c (error_text (Some command.id) UnknownError) ∷ []) × (t.held ≡ None) × (t.is_of_machine ≡ false)
+            × (self.new.end ≡ self.old.end) × (script_of self.new.script ≡ script_of self.old.script)) }
+        // Of a message that asks for names that are known, the machine takes what the profile has, or it is refused with `unknown error`; of the
+        // script, only the subscriptions to these names change.
+        ensures names { (h : List Input) (c : ℕ) (asked : List ℕ) → StandsFor self.old.end h
+            → fate (deeds h) (script_of self.old.script) (steps.Text conn.value text.now) ≡ AsksNames c asked → IfOk result (TakesPart c h (script_of self.old.script) self.new.end (script_of self.new.script)) }
+        // After an error the script is as it was, and the remote end stands for the histories that it stood for before.
+        ensures err { OnErr result ((script_of self.new.script ≡ script_of self.old.script)
+            × ((h : List Input) → StandsFor self.old.end h → StandsFor self.new.end h)) }
+        // `WornOut` comes only if the remote end has accepted `most_steps` steps.
+        ensures worn_out { (h : List Input) → StandsFor self.old.end h → IsErrOf result RemoteFault.WornOut → most_steps ≤ length h }
+    {
+        self.take_text(conn, text)
+    }
+
     // Takes one step.
     fn take(&mut self, step: Step) -> Result<Taken, RemoteFault>
         ensures { IsTaken (step_of step) self.old.end (script_of self.old.script) self.new.end (script_of self.new.script) result }
     {
         match step {
-            Step::Text(conn, text) => self.hear(conn, text),
+            Step::Text(conn, text) => self.take_text(conn, text.as_str()),
             Step::Open(conn, resource) => self.open(conn, resource),
             Step::At(moment) => self.hand_on(Step::At(moment)),
             Step::Drop(conn) => self.hand_on(Step::Drop(conn)),
@@ -179,27 +224,48 @@ impl ScriptedEnd {
     }
 
     // Takes a message of a connection.
-    fn hear(&mut self, conn: JsUint, text: String) -> Result<Taken, RemoteFault>
-        ensures { IsTaken (steps.Text conn.value (string_bytes text)) self.old.end (script_of self.old.script) self.new.end (script_of self.new.script) result }
+    fn take_text(&mut self, conn: JsUint, text: &str) -> Result<Taken, RemoteFault>
+        ensures { IsTaken (steps.Text conn.value text.now) self.old.end (script_of self.old.script) self.new.end (script_of self.new.script) result }
     {
         if self.script.is_plain() {
-            return self.hand_on(Step::Text(conn, text));
+            return self.hand_on_text(conn, text);
         }
         if !self.end.is_open(conn) {
-            return self.hand_on(Step::Text(conn, text));
+            return self.hand_on_text(conn, text);
         }
-        match self.find(text.as_str()) {
-            Ok(found) => self.take_found(conn, text, found),
-            Err(_) => Err(RemoteFault::NoMemory),
+        let scratch = self.scratch.as_mut();
+        match look(self.alloc, &mut self.end, &self.script, conn, text, scratch) {
+            Ok(Looked::Found(found)) => self.take_found(conn, text, found),
+            Ok(Looked::Heard(sent)) => Ok(Taken {
+                sent,
+                is_of_machine: true,
+                held: None,
+            }),
+            Err(fault) => Err(fault),
+        }
+    }
+
+    /// Hands a message on to the remote end.
+    pub(crate) fn hand_on_text(&mut self, conn: JsUint, text: &str) -> Result<Taken, RemoteFault>
+        ensures handed_on { IsHandedOn (steps.Text conn.value text.now) self.old.end self.new.end result }
+        ensures script { self.new.script ≡ self.old.script }
+    {
+        match self.end.hear(conn, text) {
+            Ok(sent) => Ok(Taken {
+                sent,
+                is_of_machine: true,
+                held: None,
+            }),
+            Err(fault) => Err(fault),
         }
     }
 
     // Takes a message on an open connection, for which this was found.
-    fn take_found(&mut self, conn: JsUint, text: String, found: Found) -> Result<Taken, RemoteFault>
-        requires { IsFound found self.now.script.rows.all.items (script_of self.now.script).known (string_bytes text) }
+    fn take_found(&mut self, conn: JsUint, text: &str, found: Found) -> Result<Taken, RemoteFault>
+        requires { IsFound (Some found) self.now.script.rows.all.items (script_of self.now.script).known text.now }
         ensures becomes { (h : List Input) → StandsFor self.old.end h → is_open (deeds h) conn.value ≡ true
             → IfOk result (λ t. Becomes (fate (deeds h) (script_of self.old.script)
-            (steps.Text conn.value (string_bytes text))) h (steps.Text conn.value (string_bytes text)) self.old.end (script_of self.old.script) self.new.end (script_of self.new.script) t) }
+            (steps.Text conn.value text.now)) h (steps.Text conn.value text.now) self.old.end (script_of self.old.script) self.new.end (script_of self.new.script) t) }
         ensures worn_out { (h : List Input) → StandsFor self.old.end h → IsErrOf result RemoteFault.WornOut → most_steps ≤ length h }
         ensures err { OnErr result ((script_of self.new.script ≡ script_of self.old.script)
             × ((h : List Input) → StandsFor self.old.end h → StandsFor self.new.end h)) }
@@ -207,26 +273,16 @@ impl ScriptedEnd {
         match found {
             Found::Row(found) => self.use_row(conn, found, text),
             Found::Names => self.hear_names(conn, text),
-            Found::Nothing => self.hand_on(Step::Text(conn, text)),
         }
     }
 
-    // What is found for a message.
-    fn find(&mut self, text: &str) -> Result<Found, AllocError>
-        ensures found { IfOk result (λ found. IsFound found self.old.script.rows.all.items (script_of self.old.script).known text.now) }
-        ensures script { self.new.script ≡ self.old.script }
-        ensures end { self.new.end ≡ self.old.end }
-    {
-        find(self.alloc, &self.script, text, self.scratch.as_mut())
-    }
-
     // Has a row answer or hold a command.
-    fn use_row(&mut self, conn: JsUint, found: FoundRow, text: String) -> Result<Taken, RemoteFault>
+    fn use_row(&mut self, conn: JsUint, found: FoundRow, text: &str) -> Result<Taken, RemoteFault>
         requires { found.place < vec_len self.now.script.rows.all }
         ensures becomes { (h : List Input) (command : Command) → StandsFor self.old.end h → command.id ≡ found.id.value
             → position (λ r. matches command (row_of r)) self.old.script.rows.all.items ≡ Some found.place
-            → IfOk result (λ t. Becomes (by_row (script_of self.old.script) conn.value (string_bytes text) command
-            (find (matches command) (script_of self.old.script).rows)) h (steps.Text conn.value (string_bytes text)) self.old.end (script_of self.old.script) self.new.end (script_of self.new.script) t) }
+            → IfOk result (λ t. Becomes (by_row (script_of self.old.script) conn.value text.now command
+            (find (matches command) (script_of self.old.script).rows)) h (steps.Text conn.value text.now) self.old.end (script_of self.old.script) self.new.end (script_of self.new.script) t) }
         ensures worn_out { (h : List Input) → StandsFor self.old.end h → IsErrOf result RemoteFault.WornOut → most_steps ≤ length h }
         ensures err { OnErr result (script_of self.new.script ≡ script_of self.old.script) }
         ensures end { self.new.end ≡ self.old.end }
@@ -270,14 +326,14 @@ impl ScriptedEnd {
         &mut self,
         conn: JsUint,
         found: FoundRow,
-        text: String,
+        text: &str,
     ) -> Result<Taken, RemoteFault>
         requires { found.place < vec_len self.now.script.rows.all }
         ensures worn_out { IsErrOf result RemoteFault.WornOut → ⊥ }
         ensures becomes { (h : List Input) (command : Command) → command.id ≡ found.id.value
             → position (λ r. matches command (row_of r)) self.old.script.rows.all.items ≡ Some found.place
-            → IfOk result (λ t. Becomes (by_action (script_of self.old.script) conn.value (string_bytes text) command Holds)
-            h (steps.Text conn.value (string_bytes text)) self.old.end (script_of self.old.script) self.new.end (script_of self.new.script) t) }
+            → IfOk result (λ t. Becomes (by_action (script_of self.old.script) conn.value text.now command Holds)
+            h (steps.Text conn.value text.now) self.old.end (script_of self.old.script) self.new.end (script_of self.new.script) t) }
         ensures err { OnErr result (script_of self.new.script ≡ script_of self.old.script) }
         ensures end { self.new.end ≡ self.old.end }
     {
@@ -288,18 +344,19 @@ impl ScriptedEnd {
     }
 
     // Holds a command, if there is room.
-    fn try_hold(&mut self, conn: JsUint, found: FoundRow, text: String) -> Result<Taken, AllocError>
+    fn try_hold(&mut self, conn: JsUint, found: FoundRow, text: &str) -> Result<Taken, AllocError>
         requires { found.place < vec_len self.now.script.rows.all }
         ensures becomes { (h : List Input) (command : Command) → command.id ≡ found.id.value
             → position (λ r. matches command (row_of r)) self.old.script.rows.all.items ≡ Some found.place
-            → IfOk result (λ t. Becomes (by_action (script_of self.old.script) conn.value (string_bytes text) command Holds)
-            h (steps.Text conn.value (string_bytes text)) self.old.end (script_of self.old.script) self.new.end (script_of self.new.script) t) }
+            → IfOk result (λ t. Becomes (by_action (script_of self.old.script) conn.value text.now command Holds)
+            h (steps.Text conn.value text.now) self.old.end (script_of self.old.script) self.new.end (script_of self.new.script) t) }
         ensures err { OnErr result (script_of self.new.script ≡ script_of self.old.script) }
         ensures end { self.new.end ≡ self.old.end }
     {
         if !self.script.has_room_for_command(text.len()) {
             return self.refuse(conn, found.id);
         }
+        let text = String::from_str(self.alloc, text)?;
         self.script.reserve_held()?;
         self.script.use_row(found.place);
         let number = self.script.hold(conn, found.id, text);

@@ -1,14 +1,16 @@
 //! Commands, results, events and errors: what texts are judged to be or read as, and the texts that are sent.
 ghost use Rattle.std.specs.Prelude.{IfOk};
+ghost use Rattle.bidi_messages.specs.View.{IsWell};
 
 use bidi_messages::{
-    CommandData, ErrorCode, EventData, EventName, Message, Method, Named, Payload, ResultData,
-    Sendable, SessionCommand, Verdict, data_of, error_text, event_text, judge, read_message,
-    response_around, response_id, response_text, result_of, text_of,
+    Command, CommandData, ErrorCode, EventData, EventName, Message, Method, Named, Payload,
+    ResultData, Sendable, SessionCommand, Verdict, data_of, error_text, event_text, judge,
+    judge_value, read_message, response_around, response_id, response_text, result_of, text_of,
 };
 use bidi_params::UnsubscribeParameters;
+use bidi_shape::Shape;
 use bidi_tree::{JsUint, Tree, are_whole, parse};
-use json::Scratch;
+use json::{Scratch, Value};
 use std::alloc::{AllocError, Global};
 use std::test::Fail;
 use testing::rows::{Asked, check_rows};
@@ -20,7 +22,7 @@ impl Asked for Messages {
     fn found(alloc: Global, word: &str, text: &str) -> Result<String, Fail> {
         match word {
             "command" => command(alloc, text),
-            "verdict" => judged(alloc, text),
+            "verdict" => judged_twice(alloc, text),
             "length" => Ok(text.len().to_string(alloc)?),
             "unsubscribe" => unsubscribe(alloc, text),
             "result" => result(alloc, text),
@@ -120,7 +122,10 @@ at the limit | verdict {"id":1,"method":"session.end","params":{}}«1048533  » 
 past the limit | verdict {"id":1,"method":"session.end","params":{}}«1048534  » -> null invalid argument
 verdict {"id":1,"method":"session.end","params":{"x":«60 [»«60 ]»}} -> 1 session.end same
 verdict {"id":1,"method":"session.end","params":{"x":«61 [»«61 ]»}} -> 1 invalid argument
+verdict {"id":1,"method":"session.end","params":{"x":«125 [»«125 ]»}} -> 1 invalid argument
+verdict {"id":1,"method":"session.end","params":{"x":«126 [»«126 ]»}} -> null invalid argument
 verdict {"id":1,"method":"session.end","params":{"x":«200 [»«200 ]»}} -> null invalid argument
+verdict {"id":1,"method":"session.end","params":{"x":1e400}} -> null invalid argument
 "#;
 
 /// An unsubscribe is by id where it can be. Its further members stand behind.
@@ -143,9 +148,30 @@ fn command(alloc: Global, text: &str) -> Result<String, Fail> {
     judged(alloc, text.as_str())
 }
 
-/// The id, the method and the text of a command, or the id and the code of a refusal.
+/// The verdict on a text, which is the same if the JSON value of the text is at hand.
+fn judged_twice(alloc: Global, text: &str) -> Result<String, Fail> {
+    let found = judged(alloc, text)?;
+    let mut at_hand = Scratch::new(alloc);
+    let Ok(value) = Value::parse(alloc, text, &mut at_hand) else {
+        return Ok(found);
+    };
+    let mut scratch = Scratch::new(alloc);
+    let again = shown(alloc, judge_value(alloc, text, &value, &mut scratch)?, text)?;
+    if again.as_str() != found.as_str() {
+        return Err(Fail::from("another verdict on the value"));
+    }
+    Ok(found)
+}
+
 fn judged(alloc: Global, text: &str) -> Result<String, Fail> {
-    match judge(alloc, text)? {
+    shown(alloc, judge(alloc, text)?, text)
+}
+
+/// The id, the method and the text of a command, or the id and the code of a refusal.
+fn shown(alloc: Global, verdict: Verdict, text: &str) -> Result<String, Fail>
+    requires { IsWell ⟦<Command as Shape>⟧.shape verdict }
+{
+    match verdict {
         Verdict::Accepted(command) => {
             let id = command.id.value;
             let method = command.data.method().name();

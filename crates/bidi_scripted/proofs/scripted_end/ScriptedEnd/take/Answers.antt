@@ -9,8 +9,11 @@ use Rattle.bidi_scripted.proofs.scripted_end.ScriptedEnd.take.Goals as goal
 
 pub returns-in-Text : goal.returns-in-Text
 returns-in-Text c =
-    subst (λ (s : Step). IsTaken (step_of s) c.args.self.now.end (script_of c.args.self.now.script) c.hear.new.self.end (script_of c.hear.new.self.script) c.hear.result)
-    (sym c.in-Text.is) c.hear.ensures
+    let new = c.take_text.new.self in
+    let script = script_of c.args.self.now.script in
+    subst (λ (s : Step). IsTaken (step_of s) c.args.self.now.end script new.end (script_of new.script) c.take_text.result) (sym c.in-Text.is)
+    (subst (λ t. IsTaken (steps.Text c.in-Text.conn.value t) c.args.self.now.end script new.end (script_of new.script) c.take_text.result)
+    c.as_str.ensures.value c.take_text.ensures)
 
 pub returns-in-Open : goal.returns-in-Open
 returns-in-Open c =

@@ -1,4 +1,4 @@
-use Rattle.std.proofs.Common.{◌≡◌, Option, None, false, map, Vec, Global, string_bytes, refl, sym, subst}
+use Rattle.std.proofs.Common.{◌≡◌, Option, None, false, map, Vec, Global, refl, sym, subst}
 use Rattle.std.specs.Prelude.{find, option_map, IfOk}
 use Rattle.bidi_rows.specs.Rows.{matches}
 use Rattle.bidi_remote.specs.Machine.Outcome.{deeds}
@@ -17,7 +17,7 @@ pub returns-in-Ok-Some-clause-becomes : goal.returns-in-Ok-Some-clause-becomes
 returns-in-Ok-Some-clause-becomes c = λ h command s same at.
     let script = script_of c.args.self.now.script in
     let n = c.args.conn.value in
-    let text = string_bytes c.args.text in
+    let text = c.args.text.now in
     let past = deeds h in
     let r = found-some command c.args.self.now.script.rows.all.items c.args.found.place at in
     let by = subst (λ (o : Option (Vec declared_sent.Sent Global)). option_map (λ v. map sent_of v.items) o ≡ sent_by past script.named n c.args.found.id.value r.0.action)
@@ -31,7 +31,7 @@ pub returns-in-Ok-None-clause-becomes : goal.returns-in-Ok-None-clause-becomes
 returns-in-Ok-None-clause-becomes c = λ h command s same at.
     let script = script_of c.args.self.now.script in
     let n = c.args.conn.value in
-    let text = string_bytes c.args.text in
+    let text = c.args.text.now in
     let past = deeds h in
     let new = c.hold_command.new.self in
     let r = found-some command c.args.self.now.script.rows.all.items c.args.found.place at in
