@@ -152,10 +152,10 @@ err_with (Err e) A B a b = (a, b)
 
 -- a message that was handed on, as it came or in part
 pub part-handed : (c : ℕ) (text : List ℕ) (old new : RemoteEnd) (script after : Script) (r : Result Taken RemoteFault) (h : List Input) → StandsFor old h
-    → IsHandedOn (steps.Text c text) old new r → after ≡ script → IfOk r (TakesPart c h script new after)
+    → IsHandedOn (steps.Text c text) old new r → after ≡ script → IfOk r (TakesPart c text h script new after)
 part-handed c text old new script after (Err e) h s on same = tt
 part-handed c text old new script after (Ok t) h s on same = record {
-  takes = inl (text, on.ok.0, on.ok.1, (on.ok.4 h s).0, on.ok.3, (on.ok.4 h s).2);
+  takes = inl (on.ok.0, on.ok.1, (on.ok.4 h s).0, on.ok.3, (on.ok.4 h s).2);
   held = on.ok.2;
   kept = (script.named, same);
 }
@@ -163,12 +163,17 @@ part-handed c text old new script after (Ok t) h s on same = record {
 -- the same, where the subscriptions to names change afterwards
 pub part-changed : (c : ℕ) (text : List ℕ) (old new : RemoteEnd) (script mid after : Script) (t : Taken) (h : List Input) → StandsFor old h
     → IsHandedOn (steps.Text c text) old new (Ok t) → mid ≡ script → ((named : List Named) × (after ≡ record mid { named = named }))
-    → TakesPart c h script new after t
+    → TakesPart c text h script new after t
 part-changed c text old new script mid after t h s on same changed = record {
-  takes = inl (text, on.ok.0, on.ok.1, (on.ok.4 h s).0, on.ok.3, (on.ok.4 h s).2);
+  takes = inl (on.ok.0, on.ok.1, (on.ok.4 h s).0, on.ok.3, (on.ok.4 h s).2);
   held = on.ok.2;
   kept = (changed.0, changed.1 ∙ ap {A = Script} (λ x. record x { named = changed.0 }) same);
 }
+
+-- the same of a text that is equal
+pub part-as : (c : ℕ) (a b : List ℕ) (h : List Input) (script : Script) (new : RemoteEnd) (after : Script) (r : Result Taken RemoteFault) → a ≡ b
+    → IfOk r (TakesPart c b h script new after) → IfOk r (TakesPart c a h script new after)
+part-as c a b h script new after r e p = subst (λ x. IfOk r (TakesPart c x h script new after)) (sym e) p
 
 -- ---- a step that was taken
 

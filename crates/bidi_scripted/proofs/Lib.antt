@@ -4,3 +4,6 @@ pub mod FateLemmas
 pub mod MethodLemmas
 pub mod SendLemmas
 pub mod FaultLemmas
+pub mod AskLemmas
+pub mod ReplyLemmas
+pub mod KeptLemmas

@@ -1,12 +1,12 @@
 -- The methods of a set, and of the rows whose methods are in it.
-use Rattle.std.proofs.Common.{◌≡◌, ◌≢◌, ◌∙◌, ◌<◌, ◌+◌, ℕ, zero, suc, Bool, true, false, List, [], ◌∷◌, ◌++◌, length, map, set, take, drop, get_or, Option, None, refl, sym, ap, subst, arith, true≢false}
+use Rattle.std.proofs.Common.{◌≡◌, ◌∙◌, ◌<◌, ◌+◌, ℕ, zero, suc, Bool, true, false, List, [], ◌∷◌, ◌++◌, length, map, set, take, drop, get_or, None, refl, sym, ap, subst, arith, true≢false}
 use Rattle.std.specs.Prelude.{filter, bytes_eq, ◌&&◌, if◌then◌else◌}
-use Rattle.std.specs.List.{AllByRecursion, position}
+use Rattle.std.specs.List.{position}
 use Rattle.std.proofs.lemmas.Slice.Eq.{bytes_eq-Decides}
 use Rattle.bidi_rows.specs.declared.row.Row as declared_row
 use Rattle.bidi_rows.specs.Command.{Command}
 use Rattle.bidi_rows.specs.Matching.{is_part}
-use Rattle.bidi_rows.specs.Rows.{Row, matches}
+use Rattle.bidi_rows.specs.Rows.{Row}
 use Rattle.bidi_rows.specs.View.{row_of}
 use Rattle.bidi_scripted.specs.Methods.{has_method, AreListed}
 use Rattle.bidi_scripted.specs.declared.method_set.MethodSet.{MethodSet}

@@ -27,15 +27,22 @@ use Rattle.bidi_scripted.specs.declared.finding.Looked.TheVariants as looked
 use Rattle.bidi_sessions.specs.declared.step.Sent as declared_step
 use Rattle.bidi_scripted.specs.Subscriptions.{Named}
 use Rattle.bidi_scripted.specs.Script.{Script, no_script, with_use, with_held}
+use Rattle.bidi_remote.specs.Machine.Connections.{attachment_of}
+use Rattle.bidi_remote.specs.Machine.Asking.{session_in}
+use Rattle.bidi_scripted.specs.Asked.{text_taken}
+use Rattle.bidi_scripted.specs.Kept.{IsKept}
 use Rattle.bidi_scripted.specs.Fate.{Fate, HandedOn, Answered, Held, Unheld, AsksNames, asks_names, fate, after_step}
 use Rattle.bidi_scripted.specs.Sending.{answer_sent}
 
--- Of a message on the connection, the machine takes a part as a message, or it is refused with `unknown error`; of the script, only the
--- subscriptions to names change.
-pub record TakesPart (c : ℕ) (h : List Input) (script : Script) (new : RemoteEnd) (after : Script) (t : Taken) : Type 0 where
-  pub takes : ((text : List ℕ) × (i : Input) × IsHeardAs (steps.Text c text) i × (map sent_of t.sent.items ≡ out h i) × (t.is_of_machine ≡ true)
-      × StandsFor new (i ∷ h))
-      ⊎ ((id : ℕ) × (map sent_of t.sent.items ≡ Text c (error_text (Some id) UnknownError) ∷ []) × (t.is_of_machine ≡ false) × StandsFor new h)
+-- The machine takes this text as a message on the connection, or the message is refused with `unknown error`.
+abbrev pub IsPartTaken : ℕ → List ℕ → List Input → RemoteEnd → Taken → Type 0
+IsPartTaken c text h new t =
+    ((i : Input) × IsHeardAs (steps.Text c text) i × (map sent_of t.sent.items ≡ out h i) × (t.is_of_machine ≡ true) × StandsFor new (i ∷ h))
+    ⊎ ((id : ℕ) × (map sent_of t.sent.items ≡ Text c (error_text (Some id) UnknownError) ∷ []) × (t.is_of_machine ≡ false) × StandsFor new h)
+
+-- This text is taken of a message that asks for names; of the script, only the subscriptions to names change.
+pub record TakesPart (c : ℕ) (text : List ℕ) (h : List Input) (script : Script) (new : RemoteEnd) (after : Script) (t : Taken) : Type 0 where
+  pub takes : IsPartTaken c text h new t
   pub held : t.held ≡ None
   pub kept : (named : List Named) × (after ≡ record script { named = named })
 
@@ -59,7 +66,9 @@ Becomes (Held c command text) h step old script new after t =
     (t.sent.items ≡ []) × (t.held ≡ Some script.next) × (t.is_of_machine ≡ false) × (new ≡ old) × (after ≡ with_held c command.id text (with_use command script))
 Becomes (Unheld c command) h step old script new after t =
     (map sent_of t.sent.items ≡ Text c (error_text (Some command.id) UnknownError) ∷ []) × (t.held ≡ None) × (t.is_of_machine ≡ false) × (new ≡ old) × (after ≡ script)
-Becomes (AsksNames c text) h step old script new after t = TakesPart c h script new after t
+Becomes (AsksNames c text) h step old script new after t =
+    TakesPart c (text_taken (deeds h) script c text) h script new after t
+    × IsKept c (deeds h) (session_in (attachment_of (deeds h) c)) script.known text script.named after.named t
 
 -- The step was taken: with an empty script it was handed on and the script stays empty; it brought about what its fate means; and after an
 -- error the script is as it was, and the remote end stands for the histories that it stood for before. `WornOut` comes only if the remote end

@@ -3,6 +3,8 @@ pub mod Slots
 pub mod Methods
 pub mod Subscriptions
 pub mod Script
+pub mod Asked
+pub mod Kept
 pub mod Fate
 pub mod Sending
 pub mod View

@@ -61,6 +61,10 @@ most_numbers = 1000000000
 abbrev pub most_known : ℕ
 most_known = 1024
 
+-- how many names the subscriptions of a session can have
+abbrev pub most_names : ℕ
+most_names = 1024
+
 -- how many bytes all rows and held commands can have
 abbrev pub most_kept : ℕ
 most_kept = 268435456

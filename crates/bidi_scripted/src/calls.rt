@@ -1,6 +1,6 @@
 //! The calls of a test.
 ghost use Rattle.std.specs.List.{list_all};
-ghost use Rattle.std.specs.Prelude.{◌≡◌, ◌≤◌, ◌==◌, not, [], ◌∷◌, List, ℕ, map, length, true, false, Option, Some, None, Err, IfOk, IfErr, OnOk, OnErr, IsErrOf, option_map, string_bytes};
+ghost use Rattle.std.specs.Prelude.{◌≡◌, ◌≢◌, ◌≤◌, ◌==◌, not, [], ◌∷◌, List, ℕ, map, length, true, false, Option, Some, None, Err, IfOk, IfErr, OnOk, OnErr, IsErrOf, option_map, string_bytes};
 ghost use Rattle.bidi_sessions.specs.Limits.{most_steps};
 ghost use Rattle.bidi_sessions.specs.View.{sent_of};
 ghost use Rattle.bidi_sessions.specs.Step as steps;
@@ -17,7 +17,11 @@ ghost use Rattle.bidi_scripted.specs.Script as script;
 ghost use Rattle.bidi_scripted.specs.Script.{most_rows, can_keep, has_room_for_row, has_room_for_follower, has_room_for_names, with_row, with_follower, with_names, without_method, without_held, held_by};
 ghost use Rattle.bidi_scripted.specs.Names.{is_known, words, can_be_known};
 ghost use Rattle.bidi_scripted.specs.Faults.{RefusesRow, RefusesFollower, RefusesNames, RefusesEvent, RefusesRelease, RefusesAnswer};
-ghost use Rattle.bidi_scripted.specs.Becomes.{TakesPart};
+ghost use Rattle.bidi_remote.specs.Machine.Connections.{attachment_of};
+ghost use Rattle.bidi_remote.specs.Machine.Asking.{session_in};
+ghost use Rattle.bidi_scripted.specs.Asked.{text_taken};
+ghost use Rattle.bidi_scripted.specs.Kept.{IsKept};
+ghost use Rattle.bidi_scripted.specs.Becomes.{IsPartTaken};
 ghost use Rattle.bidi_scripted.specs.Sending.{emitted, release_sent, followed_by};
 ghost use Rattle.bidi_scripted.specs.View.{script_of, held_of};
 ghost use Rattle.bidi_scripted.specs.declared.fault.ScriptFault.TheVariants.{NotHeld};
@@ -139,6 +143,14 @@ impl ScriptedEnd {
             → (script_of self.old.script).known ≡ []
             → IfOk result (λ t. (i : Input) × IsHeardAs (steps.Text held.conn held.text) i × (t.is_of_machine ≡ true) × (t.held ≡ None)
             × ((h : List Input) → StandsFor self.old.end h → (map sent_of t.sent.items ≡ out h i) × StandsFor self.new.end (i ∷ h))) }
+        // While names are known, the remote end takes its text without those that only the test has, or the command is refused with `unknown error`.
+        ensures names { (h : List Input) (held : script.Held) → StandsFor self.old.end h → held_by number (script_of self.old.script) ≡ Some held
+            → held.is_lost ≡ false → IfOk result (λ t. (t.held ≡ None)
+            × IsPartTaken held.conn (text_taken (deeds h) (script_of self.old.script) held.conn held.text) h self.new.end t) }
+        // What becomes then of the subscriptions to these names follows from what the command asks, and from what the machine sends.
+        ensures named { (h : List Input) (held : script.Held) → StandsFor self.old.end h → held_by number (script_of self.old.script) ≡ Some held
+            → held.is_lost ≡ false → (script_of self.old.script).known ≢ []
+            → IfOk result (IsKept held.conn (deeds h) (session_in (attachment_of (deeds h) held.conn)) (script_of self.old.script).known held.text (script_of self.old.script).named (script_of self.new.script).named) }
         // After an Ok, the command is held no longer, so it cannot be released again.
         ensures released { (h : List Input) → StandsFor self.old.end h
             → OnOk result ((script_of self.new.script).held ≡ (without_held number (script_of self.old.script)).held) }
@@ -193,6 +205,10 @@ impl ScriptedEnd {
         ensures handed_on { (script_of self.old.script).known ≡ []
             → IfOk result (λ t. (i : Input) × IsHeardAs (steps.Text conn.value (string_bytes text)) i × (t.is_of_machine ≡ true) × (t.held ≡ None)
             × ((h : List Input) → StandsFor self.old.end h → (map sent_of t.sent.items ≡ out h i) × StandsFor self.new.end (i ∷ h))) }
+        ensures names { (h : List Input) → StandsFor self.old.end h → IfOk result (λ t. (t.held ≡ None)
+            × IsPartTaken conn.value (text_taken (deeds h) (script_of self.old.script) conn.value (string_bytes text)) h self.new.end t) }
+        ensures named { (h : List Input) → StandsFor self.old.end h → (script_of self.old.script).known ≢ []
+            → IfOk result (IsKept conn.value (deeds h) (session_in (attachment_of (deeds h) conn.value)) (script_of self.old.script).known (string_bytes text) (script_of self.old.script).named (script_of self.new.script).named) }
         ensures released { (h : List Input) → StandsFor self.old.end h
             → OnOk result ((script_of self.new.script).held ≡ (without_held number (script_of self.old.script)).held) }
         ensures err { OnErr result ((script_of self.new.script ≡ script_of self.old.script)

@@ -17,6 +17,7 @@
 //! a command that cannot be held.
 #![tactic(auto)]
 
+mod asking;
 mod calls;
 mod emitting;
 mod fault;

@@ -1,23 +1,30 @@
 //! How sessions subscribe to names that are known, beside the remote end.
-ghost use Rattle.std.specs.Prelude.{◌≡◌, ◌<◌, ◌≤◌, [], List, length, IfOk, OnOk, OnErr, IsErrOf, vec_len, vec_capacity};
+ghost use Rattle.std.specs.Prelude.{◌≡◌, ◌≢◌, ◌<◌, ◌≤◌, ℕ, false, [], List, Some, length, filter_map, IfOk, OnOk, OnErr, IsErrOf, vec_len, vec_capacity, if◌then◌else◌, option_map, string_bytes};
+ghost use Rattle.std.specs.List.{list_all};
 ghost use Rattle.bidi_remote.specs.Machine.History.{Input};
+ghost use Rattle.bidi_remote.specs.Machine.Outcome.{deeds};
 ghost use Rattle.bidi_remote.specs.State.Stands.{StandsFor};
 ghost use Rattle.bidi_sessions.specs.Limits.{most_steps};
 ghost use Rattle.bidi_sessions.specs.Step as steps;
+ghost use Rattle.bidi_handles.specs.Ids.{id_text};
+ghost use Rattle.bidi_handles.specs.declared.id.IdKind.TheVariants.{Subscription};
+ghost use Rattle.bidi_remote.specs.Machine.Connections.{attachment_of};
+ghost use Rattle.bidi_remote.specs.Machine.Sessions.{sessions};
+ghost use Rattle.bidi_remote.specs.Machine.Asking.{session_in};
+ghost use Rattle.bidi_sessions.specs.SubscriptionView.{scope_of};
+ghost use Rattle.bidi_scripted.specs.Kept.{AreNumbers, IsScope, KeptFor, IsKept, top_number, is_too_many};
+ghost use Rattle.bidi_scripted.specs.Asked.{Wanted, Subscribes, Unsubscribes, Ends, asked_of, holds_globally, part_or, taken_for, text_taken};
 ghost use Rattle.bidi_scripted.specs.Becomes.{IsHandedOn, TakesPart};
-ghost use Rattle.bidi_scripted.specs.View.{script_of};
+ghost use Rattle.bidi_scripted.specs.View.{script_of, texts_of, ids_seen, wanted_of, asked_seen};
 
-use crate::names::{NamesAsked, NamesWanted, names_asked};
-use crate::replies::{is_success, number_made, user_numbers};
+use crate::asking::{NamesAsked, NamesWanted, names_asked};
+use crate::replies::{is_success, number_made, push_found, subscription_numbers, user_numbers};
 use crate::scripted_end::{ScriptedEnd, Taken};
-use crate::subscriptions::{NamedSubscription, are_global, count_names};
-use bidi_remote::RemoteFault;
+use crate::subscriptions::{NamedSubscription, are_global, has_room_for};
+use bidi_remote::{RemoteFault, Top};
 use bidi_sessions::Scope;
 use bidi_tree::JsUint;
 use std::alloc::AllocError;
-
-/// How many names the subscriptions of a session can have.
-const MOST_NAMES: usize = 1_024;
 
 /// What a subscription to names needs before the remote end makes it.
 #[derive(Drop)]
@@ -32,7 +39,10 @@ impl ScriptedEnd {
     /// Takes a message that may ask for names that are known.
     pub(crate) fn hear_names(&mut self, conn: JsUint, text: &str) -> Result<Taken, RemoteFault>
         ensures plain { (script_of self.old.script).known ≡ [] → IsHandedOn (steps.Text conn.value text.now) self.old.end self.new.end result }
-        ensures part { (h : List Input) → StandsFor self.old.end h → IfOk result (TakesPart conn.value h (script_of self.old.script) self.new.end (script_of self.new.script)) }
+        ensures part { (h : List Input) → StandsFor self.old.end h
+            → IfOk result (TakesPart conn.value (text_taken (deeds h) (script_of self.old.script) conn.value text.now) h (script_of self.old.script) self.new.end (script_of self.new.script)) }
+        ensures named { (h : List Input) → StandsFor self.old.end h → (script_of self.old.script).known ≢ []
+            → IfOk result (IsKept conn.value (deeds h) (session_in (attachment_of (deeds h) conn.value)) (script_of self.old.script).known text.now (script_of self.old.script).named (script_of self.new.script).named) }
         ensures worn_out { (h : List Input) → StandsFor self.old.end h → IsErrOf result RemoteFault.WornOut → most_steps ≤ length h }
         ensures err { OnErr result ((script_of self.new.script ≡ script_of self.old.script)
             × ((h : List Input) → StandsFor self.old.end h → StandsFor self.new.end h)) }
@@ -45,7 +55,10 @@ impl ScriptedEnd {
 
     // Takes a message while names are known.
     fn hear_known(&mut self, conn: JsUint, text: &str) -> Result<Taken, RemoteFault>
-        ensures part { (h : List Input) → StandsFor self.old.end h → IfOk result (TakesPart conn.value h (script_of self.old.script) self.new.end (script_of self.new.script)) }
+        ensures part { (h : List Input) → StandsFor self.old.end h
+            → IfOk result (TakesPart conn.value (text_taken (deeds h) (script_of self.old.script) conn.value text.now) h (script_of self.old.script) self.new.end (script_of self.new.script)) }
+        ensures named { (h : List Input) → StandsFor self.old.end h
+            → IfOk result (IsKept conn.value (deeds h) (session_in (attachment_of (deeds h) conn.value)) (script_of self.old.script).known text.now (script_of self.old.script).named (script_of self.new.script).named) }
         ensures worn_out { (h : List Input) → StandsFor self.old.end h → IsErrOf result RemoteFault.WornOut → most_steps ≤ length h }
         ensures err { OnErr result ((script_of self.new.script ≡ script_of self.old.script)
             × ((h : List Input) → StandsFor self.old.end h → StandsFor self.new.end h)) }
@@ -53,24 +66,19 @@ impl ScriptedEnd {
         let Some(session) = self.end.session_of(conn) else {
             return self.hand_on_text(conn, text);
         };
-        match self.names_asked(text, session) {
+        match self.names_asked(text) {
             Ok(asked) => self.take_names(conn, session, text, asked),
             Err(_) => Err(RemoteFault::NoMemory),
         }
     }
 
     // What a message of a session asks of names that are known.
-    fn names_asked(&mut self, text: &str, session: u32) -> Result<Option<NamesAsked>, AllocError>
+    fn names_asked(&mut self, text: &str) -> Result<Option<NamesAsked>, AllocError>
         ensures script { self.new.script ≡ self.old.script }
         ensures end { self.new.end ≡ self.old.end }
+        ensures asked { IfOk result (λ asked. option_map asked_seen asked ≡ asked_of (script_of self.old.script).known text.now) }
     {
-        names_asked(
-            self.alloc,
-            text,
-            &self.script.known,
-            session,
-            self.scratch.as_mut(),
-        )
+        names_asked(self.alloc, text, &self.script.known, self.scratch.as_mut())
     }
 
     // Takes a message of a session that asks this of them.
@@ -81,7 +89,10 @@ impl ScriptedEnd {
         text: &str,
         asked: Option<NamesAsked>,
     ) -> Result<Taken, RemoteFault>
-        ensures part { (h : List Input) → StandsFor self.old.end h → IfOk result (TakesPart conn.value h (script_of self.old.script) self.new.end (script_of self.new.script)) }
+        ensures part { (h : List Input) → StandsFor self.old.end h
+            → IfOk result (TakesPart conn.value (taken_for (script_of self.old.script).named session text.now (option_map asked_seen asked)) h (script_of self.old.script) self.new.end (script_of self.new.script)) }
+        ensures named { (h : List Input) → StandsFor self.old.end h
+            → IfOk result (KeptFor conn.value (deeds h) session (option_map asked_seen asked) (script_of self.old.script).named (script_of self.new.script).named) }
         ensures worn_out { (h : List Input) → StandsFor self.old.end h → IsErrOf result RemoteFault.WornOut → most_steps ≤ length h }
         ensures err { OnErr result ((script_of self.new.script ≡ script_of self.old.script)
             × ((h : List Input) → StandsFor self.old.end h → StandsFor self.new.end h)) }
@@ -92,7 +103,7 @@ impl ScriptedEnd {
             Some(NamesAsked::Unsubscribe(wanted)) => {
                 self.unsubscribe(conn, session, text, wanted)
             }
-            Some(NamesAsked::End(numbers)) => self.end_numbers(conn, session, text, numbers),
+            Some(NamesAsked::End(ids)) => self.end_ids(conn, session, text, ids),
         }
     }
 
@@ -104,7 +115,10 @@ impl ScriptedEnd {
         text: &str,
         wanted: NamesWanted,
     ) -> Result<Taken, RemoteFault>
-        ensures part { (h : List Input) → StandsFor self.old.end h → IfOk result (TakesPart conn.value h (script_of self.old.script) self.new.end (script_of self.new.script)) }
+        ensures part { (h : List Input) → StandsFor self.old.end h
+            → IfOk result (TakesPart conn.value (part_or (option_map string_bytes wanted.part) text.now) h (script_of self.old.script) self.new.end (script_of self.new.script)) }
+        ensures named { (h : List Input) → StandsFor self.old.end h
+            → IfOk result (KeptFor conn.value (deeds h) session (Some (Subscribes (wanted_of wanted))) (script_of self.old.script).named (script_of self.new.script).named) }
         ensures worn_out { (h : List Input) → StandsFor self.old.end h → IsErrOf result RemoteFault.WornOut → most_steps ≤ length h }
         ensures err { OnErr result ((script_of self.new.script ≡ script_of self.old.script)
             × ((h : List Input) → StandsFor self.old.end h → StandsFor self.new.end h)) }
@@ -113,11 +127,11 @@ impl ScriptedEnd {
             id,
             names,
             foreign: _,
-            text: part,
+            part,
             contexts,
             users,
         } = wanted;
-        if count_names(&self.script.named, session).saturating_add(names.len()) > MOST_NAMES {
+        if !has_room_for(&self.script.named, session, names.len()) {
             return match self.refuse(conn, id) {
                 Ok(taken) => Ok(taken),
                 Err(_) => Err(RemoteFault::NoMemory),
@@ -140,6 +154,8 @@ impl ScriptedEnd {
         ensures script { script_of self.new.script ≡ script_of self.old.script }
         ensures end { self.new.end ≡ self.old.end }
         ensures room { OnOk result (vec_len self.new.script.named < vec_capacity self.new.script.named) }
+        ensures scope { (h : List Input) → StandsFor self.old.end h → IfOk result (λ p. IsScope (deeds h) (ids_seen contexts) (ids_seen users) (scope_of p.scope)) }
+        ensures active { (h : List Input) → StandsFor self.old.end h → IfOk result (λ p. p.active.items ≡ sessions (deeds h)) }
         ensures worn_out { (h : List Input) → StandsFor self.old.end h → IsErrOf result RemoteFault.WornOut → most_steps ≤ length h }
     {
         let scope = self.scope_of(contexts, users)?;
@@ -158,7 +174,11 @@ impl ScriptedEnd {
         prepared: Prepared,
     ) -> Result<Taken, RemoteFault>
         requires { vec_len self.now.script.named < vec_capacity self.now.script.named }
-        ensures part { (h : List Input) → StandsFor self.old.end h → IfOk result (TakesPart conn.value h (script_of self.old.script) self.new.end (script_of self.new.script)) }
+        ensures part { (h : List Input) → StandsFor self.old.end h
+            → IfOk result (TakesPart conn.value text.now h (script_of self.old.script) self.new.end (script_of self.new.script)) }
+        ensures named { (h : List Input) (w : Wanted) → StandsFor self.old.end h → IsScope (deeds h) w.contexts w.users (scope_of prepared.scope)
+            → prepared.active.items ≡ sessions (deeds h) → texts_of names.items ≡ w.names → is_too_many session (script_of self.old.script).named (length w.names) ≡ false
+            → IfOk result (KeptFor conn.value (deeds h) session (Some (Subscribes w)) (script_of self.old.script).named (script_of self.new.script).named) }
         ensures worn_out { (h : List Input) → StandsFor self.old.end h → IsErrOf result RemoteFault.WornOut → most_steps ≤ length h }
         ensures err { OnErr result ((script_of self.new.script ≡ script_of self.old.script)
             × ((h : List Input) → StandsFor self.old.end h → StandsFor self.new.end h)) }
@@ -189,7 +209,10 @@ impl ScriptedEnd {
         text: &str,
         wanted: NamesWanted,
     ) -> Result<Taken, RemoteFault>
-        ensures part { (h : List Input) → StandsFor self.old.end h → IfOk result (TakesPart conn.value h (script_of self.old.script) self.new.end (script_of self.new.script)) }
+        ensures part { (h : List Input) → StandsFor self.old.end h
+            → IfOk result (TakesPart conn.value (if list_all (holds_globally (script_of self.old.script).named session) (texts_of wanted.foreign.items) then part_or (option_map string_bytes wanted.part) text.now else text.now) h (script_of self.old.script) self.new.end (script_of self.new.script)) }
+        ensures named { (h : List Input) → StandsFor self.old.end h
+            → IfOk result (KeptFor conn.value (deeds h) session (Some (Unsubscribes (wanted_of wanted))) (script_of self.old.script).named (script_of self.new.script).named) }
         ensures worn_out { (h : List Input) → StandsFor self.old.end h → IsErrOf result RemoteFault.WornOut → most_steps ≤ length h }
         ensures err { OnErr result ((script_of self.new.script ≡ script_of self.old.script)
             × ((h : List Input) → StandsFor self.old.end h → StandsFor self.new.end h)) }
@@ -198,7 +221,7 @@ impl ScriptedEnd {
             id: _,
             names,
             foreign,
-            text: part,
+            part,
             contexts: _,
             users: _,
         } = wanted;
@@ -215,15 +238,40 @@ impl ScriptedEnd {
         }
     }
 
+    // Ends the subscriptions of a session that have these ids, if the remote end does.
+    fn end_ids(
+        &mut self,
+        conn: JsUint,
+        session: u32,
+        text: &str,
+        ids: Vec<String>,
+    ) -> Result<Taken, RemoteFault>
+        ensures part { (h : List Input) → StandsFor self.old.end h
+            → IfOk result (TakesPart conn.value text.now h (script_of self.old.script) self.new.end (script_of self.new.script)) }
+        ensures named { (h : List Input) → StandsFor self.old.end h
+            → IfOk result (KeptFor conn.value (deeds h) session (Some (Ends (texts_of ids.items))) (script_of self.old.script).named (script_of self.new.script).named) }
+        ensures worn_out { (h : List Input) → StandsFor self.old.end h → IsErrOf result RemoteFault.WornOut → most_steps ≤ length h }
+        ensures err { OnErr result ((script_of self.new.script ≡ script_of self.old.script)
+            × ((h : List Input) → StandsFor self.old.end h → StandsFor self.new.end h)) }
+    {
+        match subscription_numbers(self.alloc, &ids, session) {
+            Ok(numbers) => self.end_numbers(conn, session, text, &numbers),
+            Err(_) => Err(RemoteFault::NoMemory),
+        }
+    }
+
     // Ends the subscriptions of a session that have these numbers, if the remote end does.
     fn end_numbers(
         &mut self,
         conn: JsUint,
         session: u32,
         text: &str,
-        numbers: Vec<u64>,
+        numbers: &[u64],
     ) -> Result<Taken, RemoteFault>
-        ensures part { (h : List Input) → StandsFor self.old.end h → IfOk result (TakesPart conn.value h (script_of self.old.script) self.new.end (script_of self.new.script)) }
+        ensures part { (h : List Input) → StandsFor self.old.end h
+            → IfOk result (TakesPart conn.value text.now h (script_of self.old.script) self.new.end (script_of self.new.script)) }
+        ensures named { (h : List Input) (ids : List (List ℕ)) → StandsFor self.old.end h → AreNumbers (id_text Subscription session) ids numbers.now
+            → IfOk result (KeptFor conn.value (deeds h) session (Some (Ends ids)) (script_of self.old.script).named (script_of self.new.script).named) }
         ensures worn_out { (h : List Input) → StandsFor self.old.end h → IsErrOf result RemoteFault.WornOut → most_steps ≤ length h }
         ensures err { OnErr result ((script_of self.new.script ≡ script_of self.old.script)
             × ((h : List Input) → StandsFor self.old.end h → StandsFor self.new.end h)) }
@@ -231,7 +279,7 @@ impl ScriptedEnd {
         match self.hand_on_text(conn, text) {
             Ok(taken) => {
                 self.script
-                    .cancel_named(is_success(&taken.sent), session, &numbers);
+                    .cancel_named(is_success(&taken.sent), session, numbers);
                 Ok(taken)
             }
             Err(fault) => Err(fault),
@@ -244,6 +292,7 @@ impl ScriptedEnd {
         contexts: Option<Vec<String>>,
         users: Option<Vec<String>>,
     ) -> Result<Scope, RemoteFault>
+        ensures scope { (h : List Input) → StandsFor self.now.end h → IfOk result (λ scope. IsScope (deeds h) (ids_seen contexts) (ids_seen users) (scope_of scope)) }
         ensures worn_out { (h : List Input) → StandsFor self.now.end h → IsErrOf result RemoteFault.WornOut → most_steps ≤ length h }
     {
         match (contexts, users) {
@@ -255,27 +304,34 @@ impl ScriptedEnd {
 
     // The numbers of the top-level contexts above the contexts of these ids.
     fn tops_of(&self, ids: &[String]) -> Result<Vec<u64>, RemoteFault>
+        ensures tops { (h : List Input) → StandsFor self.now.end h → IfOk result (λ tops. tops.items ≡ filter_map (top_number (deeds h)) (texts_of ids.now)) }
         ensures worn_out { (h : List Input) → StandsFor self.now.end h → IsErrOf result RemoteFault.WornOut → most_steps ≤ length h }
     {
         let mut tops = Vec::new(self.alloc);
         for id in ids {
-            if let Some(top) = self.end.top_at(id.as_str())? {
-                push_number(&mut tops, top.number)?;
-            }
+            let top = self.end.top_at(id.as_str())?;
+            push_found(&mut tops, number_of(top))?;
         }
         Ok(tops)
     }
 }
 
 // The text without the names that the profile does not have, if there is one.
-fn part_or<'a>(part: &'a Option<String>, text: &'a str) -> &'a str {
+fn part_or<'a>(part: &'a Option<String>, text: &'a str) -> &'a str
+    ensures { result.now ≡ part_or (option_map string_bytes part.now) text.now }
+{
     match part {
         Some(part) => part.as_str(),
         None => text,
     }
 }
 
-// Adds a number.
-fn push_number(numbers: &mut Vec<u64>, number: u64) -> Result<(), AllocError> {
-    Ok(numbers.push(number)?)
+// The number of a top-level context, if there is one.
+fn number_of(top: Option<Top>) -> Option<u64>
+    ensures { result ≡ option_map (λ t. t.number) top }
+{
+    match top {
+        Some(top) => Some(top.number),
+        None => None,
+    }
 }

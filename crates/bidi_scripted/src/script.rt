@@ -1,11 +1,12 @@
 //! A script: the rows of a test, and the commands that are held.
-ghost use Rattle.std.specs.Prelude.{◌≡◌, ◌≤◌, ◌<◌, ◌+◌, ◌==◌, if◌then◌else◌, List, not, nat_lt, length, map, filter, find, bytes_eq, string_bytes, Some, IsTrue, IfOk, OnOk, OnErr, option_map, MatchOption, vec_len, vec_capacity};
+ghost use Rattle.std.specs.Prelude.{◌≡◌, ◌≤◌, ◌<◌, ◌+◌, ◌==◌, ◌++◌, ◌∷◌, [], if◌then◌else◌, List, not, nat_lt, length, map, filter, find, bytes_eq, string_bytes, Some, IsTrue, IfOk, OnOk, OnErr, option_map, MatchOption, vec_len, vec_capacity};
 ghost use Rattle.std.specs.List.{position};
 ghost use Rattle.bidi_rows.specs.Command.{Command};
 ghost use Rattle.bidi_rows.specs.Rows.{matches};
 ghost use Rattle.bidi_rows.specs.View.{row_of};
 ghost use Rattle.bidi_scripted.specs.Script.{no_script, is_plain, most_rows, most_numbers, can_keep, has_room_for_command, has_room_for_names, total, used, with_row, with_use, without_method, with_held, without_held, with_opening, with_follower, with_names, lost_on, held_by};
-ghost use Rattle.bidi_scripted.specs.Subscriptions.{Named};
+ghost use Rattle.bidi_scripted.specs.Subscriptions.{named_of};
+ghost use Rattle.bidi_scripted.specs.Kept.{dismissed, cancelled, of_active};
 ghost use Rattle.bidi_scripted.specs.View.{held_of, follower_of, script_of};
 
 use crate::row_table::RowTable;
@@ -239,7 +240,10 @@ impl Script {
     /// Adds a subscription to names if it was made, and removes those of sessions that are not among these. Room was made before.
     pub(crate) fn add_named(&mut self, is_made: bool, made: NamedSubscription, active: &[u32])
         requires { vec_len self.now.named < vec_capacity self.now.named }
-        ensures { (named : List Named) × (script_of self.new ≡ record (script_of self.old) { named = named }) }
+        ensures { script_of self.new ≡ record (script_of self.old) {
+          named =
+              if is_made then of_active active.now (script_of self.old).named ++ named_of made ∷ [] else (script_of self.old).named;
+        } }
     {
         if !is_made {
             return;
@@ -250,7 +254,10 @@ impl Script {
 
     /// Removes these names from the subscriptions of a session for all contexts, if that was done.
     pub(crate) fn dismiss_named(&mut self, is_done: bool, session: u32, names: &[String])
-        ensures { (named : List Named) × (script_of self.new ≡ record (script_of self.old) { named = named }) }
+        ensures { script_of self.new ≡ record (script_of self.old) {
+          named =
+              if is_done then dismissed session (map string_bytes names.now) (script_of self.old).named else (script_of self.old).named;
+        } }
     {
         if !is_done {
             return;
@@ -260,7 +267,10 @@ impl Script {
 
     /// Removes the subscriptions of a session that have one of these numbers, if that was done.
     pub(crate) fn cancel_named(&mut self, is_done: bool, session: u32, numbers: &[u64])
-        ensures { (named : List Named) × (script_of self.new ≡ record (script_of self.old) { named = named }) }
+        ensures { script_of self.new ≡ record (script_of self.old) {
+          named =
+              if is_done then cancelled session numbers.now (script_of self.old).named else (script_of self.old).named;
+        } }
     {
         if !is_done {
             return;

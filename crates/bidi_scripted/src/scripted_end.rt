@@ -10,13 +10,16 @@ ghost use Rattle.bidi_rows.specs.Rows as row;
 ghost use Rattle.bidi_rows.specs.Rows.{Holds, matches};
 ghost use Rattle.bidi_rows.specs.View.{row_of};
 ghost use Rattle.bidi_remote.specs.Machine.History.{Input, IsHeardAs};
-ghost use Rattle.bidi_remote.specs.Machine.Connections.{is_open};
 ghost use Rattle.bidi_remote.specs.Machine.Outcome.{deeds};
 ghost use Rattle.bidi_remote.specs.Machine.Sent.{out, Text};
 ghost use Rattle.bidi_remote.specs.State.Stands.{StandsFor};
 ghost use Rattle.bidi_sessions.specs.Step as steps;
 ghost use Rattle.bidi_scripted.specs.Script.{no_script, is_plain, with_use, with_held};
 ghost use Rattle.bidi_scripted.specs.Fate.{fate, by_row, by_action, HandedOn, Answered, Held, Unheld, AsksNames, after_step};
+ghost use Rattle.bidi_remote.specs.Machine.Connections.{is_open, attachment_of};
+ghost use Rattle.bidi_remote.specs.Machine.Asking.{session_in};
+ghost use Rattle.bidi_scripted.specs.Asked.{text_taken};
+ghost use Rattle.bidi_scripted.specs.Kept.{IsKept};
 ghost use Rattle.bidi_scripted.specs.Becomes.{Becomes, IsFound, IsHandedOn, IsTaken, TakesPart, sent_by};
 ghost use Rattle.bidi_scripted.specs.Sending.{answer_sent};
 ghost use Rattle.bidi_scripted.specs.View.{script_of};
@@ -118,10 +121,15 @@ impl ScriptedEnd {
             → fate (deeds h) (script_of self.old.script) (step_of step) ≡ Unheld c command
             → IfOk result (λ t. (map sent_of t.sent.items ≡ Text c (error_text (Some command.id) UnknownError) ∷ []) × (t.held ≡ None) × (t.is_of_machine ≡ false)
             × (self.new.end ≡ self.old.end) × (script_of self.new.script ≡ script_of self.old.script)) }
-        // Of a message that asks for names that are known, the machine takes what the profile has, or it is refused with `unknown error`; of the
-        // script, only the subscriptions to these names change.
+        // Of a message that asks for names that are known, the machine takes the text without those that only the test has, or the message is
+        // refused with `unknown error`; of the script, only the subscriptions to these names change.
         ensures names { (h : List Input) (c : ℕ) (text : List ℕ) → StandsFor self.old.end h
-            → fate (deeds h) (script_of self.old.script) (step_of step) ≡ AsksNames c text → IfOk result (TakesPart c h (script_of self.old.script) self.new.end (script_of self.new.script)) }
+            → fate (deeds h) (script_of self.old.script) (step_of step) ≡ AsksNames c text
+            → IfOk result (TakesPart c (text_taken (deeds h) (script_of self.old.script) c text) h (script_of self.old.script) self.new.end (script_of self.new.script)) }
+        // What becomes then of the subscriptions to these names follows from what the command asks, and from what the machine sends.
+        ensures named { (h : List Input) (c : ℕ) (text : List ℕ) → StandsFor self.old.end h
+            → fate (deeds h) (script_of self.old.script) (step_of step) ≡ AsksNames c text
+            → IfOk result (IsKept c (deeds h) (session_in (attachment_of (deeds h) c)) (script_of self.old.script).known text (script_of self.old.script).named (script_of self.new.script).named) }
         // After an error the script is as it was, and the remote end stands for the histories that it stood for before.
         ensures err { OnErr result ((script_of self.new.script ≡ script_of self.old.script)
             × ((h : List Input) → StandsFor self.old.end h → StandsFor self.new.end h)) }
@@ -163,10 +171,15 @@ impl ScriptedEnd {
             → fate (deeds h) (script_of self.old.script) (steps.Text conn.value text.now) ≡ Unheld c command
             → IfOk result (λ t. (map sent_of t.sent.items ≡ Text c (error_text (Some command.id) UnknownError) ∷ []) × (t.held ≡ None) × (t.is_of_machine ≡ false)
             × (self.new.end ≡ self.old.end) × (script_of self.new.script ≡ script_of self.old.script)) }
-        // Of a message that asks for names that are known, the machine takes what the profile has, or it is refused with `unknown error`; of the
-        // script, only the subscriptions to these names change.
+        // Of a message that asks for names that are known, the machine takes the text without those that only the test has, or the message is
+        // refused with `unknown error`; of the script, only the subscriptions to these names change.
         ensures names { (h : List Input) (c : ℕ) (asked : List ℕ) → StandsFor self.old.end h
-            → fate (deeds h) (script_of self.old.script) (steps.Text conn.value text.now) ≡ AsksNames c asked → IfOk result (TakesPart c h (script_of self.old.script) self.new.end (script_of self.new.script)) }
+            → fate (deeds h) (script_of self.old.script) (steps.Text conn.value text.now) ≡ AsksNames c asked
+            → IfOk result (TakesPart c (text_taken (deeds h) (script_of self.old.script) c asked) h (script_of self.old.script) self.new.end (script_of self.new.script)) }
+        // What becomes then of the subscriptions to these names follows from what the command asks, and from what the machine sends.
+        ensures named { (h : List Input) (c : ℕ) (asked : List ℕ) → StandsFor self.old.end h
+            → fate (deeds h) (script_of self.old.script) (steps.Text conn.value text.now) ≡ AsksNames c asked
+            → IfOk result (IsKept c (deeds h) (session_in (attachment_of (deeds h) c)) (script_of self.old.script).known asked (script_of self.old.script).named (script_of self.new.script).named) }
         // After an error the script is as it was, and the remote end stands for the histories that it stood for before.
         ensures err { OnErr result ((script_of self.new.script ≡ script_of self.old.script)
             × ((h : List Input) → StandsFor self.old.end h → StandsFor self.new.end h)) }

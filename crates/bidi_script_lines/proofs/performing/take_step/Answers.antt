@@ -20,7 +20,8 @@ returns-in-Ok-clause-brings c = λ h s.
     let taken = c.in-Ok.taken in (
       taken,
       each-fate (fate (deeds h) (script_of old.script) step) (λ f. Becomes f h step old.end (script_of old.script) new.end (script_of new.script) taken)
-          (call.handed_on h s) (λ n k a. call.answered h n k a s) (λ n k t. call.held h n k t s) (λ n k. call.unheld h n k s) (λ n t. call.names h n t s),
+          (call.handed_on h s) (λ n k a. call.answered h n k a s) (λ n k t. call.held h n k t s) (λ n k. call.unheld h n k s)
+          (λ n t e. (call.names h n t s e, call.named h n t s e)),
       c.of_taken.ensures,
     )
 

@@ -3,7 +3,7 @@ use Rattle.std.specs.Prelude.{option_map, bytes_eq}
 use Rattle.std.specs.Option.{option_map_or}
 use Rattle.json.specs.Value.{value_view}
 use Rattle.bidi_rows.specs.declared.template.Template as declared_template
-use Rattle.bidi_rows.specs.Filling.{Template, filling_of, filled_text, template_of}
+use Rattle.bidi_rows.specs.Filling.{filling_of, filled_text, template_of}
 use Rattle.bidi_remote.specs.Machine.Sent.{Text}
 use Rattle.bidi_sessions.specs.View.{sent_of}
 use Rattle.bidi_sessions.proofs.ListLemmas.{find-seen, map-twice}

@@ -2,7 +2,6 @@ use Rattle.std.proofs.Common.{◌≡◌, Option, None, false, map, Vec, Global, 
 use Rattle.std.specs.Prelude.{find, option_map, IfOk}
 use Rattle.bidi_rows.specs.Rows.{matches}
 use Rattle.bidi_remote.specs.Machine.Outcome.{deeds}
-use Rattle.bidi_remote.specs.Machine.Sent.{Sent}
 use Rattle.bidi_sessions.specs.Step as steps
 use Rattle.bidi_sessions.specs.View.{sent_of}
 use Rattle.bidi_sessions.specs.declared.step.Sent as declared_sent
