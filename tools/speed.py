@@ -1,8 +1,8 @@
 #!/usr/bin/env python3
 """Measures one or two builds of `bidi` by turns:
-speed.py [--growth | --instructions | --rows] [--bench WORDS] [--times N] [--only NAME,..] BEFORE [AFTER]
+speed.py [--growth | --instructions | --rows] [--times N] [--only NAME,..] BEFORE [AFTER]
 
-BEFORE, AFTER and what --bench takes are words that start a program. `trials bench` writes each input, and each program reads it N times.
+BEFORE and AFTER are words that start a program. `workloads.py` writes each input, and each program reads it N times.
 The table has the least seconds of processor, with those of the system, and the most memory; the output is thrown away meanwhile.
 Then they run once more side by side. The last column of two programs says whether their outputs differ. Below the table stands each
 input for which they do, or for which something is refused that should be done; the status is 1 then. With --growth it prints the
@@ -17,7 +17,9 @@ import shlex
 import subprocess
 import tempfile
 
-# Words of `trials bench`: a name, a count, and a size where it is not the usual one.
+import workloads
+
+# A name of `workloads.py`, a count, and a size where it is not the usual one.
 WORKLOADS = """events 500000, turns 300000, pair 100000, connections 300000, sessions_come 50000, contexts 1008, frames 20000,
 looks 20000, navigate_last 20000, navigate 100000, evaluate 200000 10, evaluate 100000 1000, evaluate 200 1000000,
 call 100000 10, call 50000 1000, call 100 1000000, numbers 20, handles 50000, subscribe 50000, subscribe_tabs 500,
@@ -38,10 +40,8 @@ REFUSED = [b'"type":"error"', b"no effect\n", b"denied ", b"lost ", b" waiting\n
 def make(given, name, *numbers):
     """Writes the input of these words, and gives its lines."""
     given.commands = [program + READERS.get(name, ["play"]) for program in given.programs]
-    with open(given.input.name, "w+b") as file:
-        subprocess.run([*given.bench, name, *map(str, numbers)], stdout=file, check=True)
-        file.seek(0)
-        return sum(1 for _ in file)
+    with open(given.input.name, "w") as file:
+        return workloads.write(file, name, *numbers)
 
 
 def run(command, path):
@@ -176,7 +176,6 @@ words.add_argument("programs", nargs="+", type=shlex.split)
 words.add_argument("--growth", action="store_true")
 words.add_argument("--instructions", action="store_true")
 words.add_argument("--rows", action="store_true")
-words.add_argument("--bench", type=shlex.split, default=["crates/trials/out/trials", "bench"])
 words.add_argument("--times", type=int, default=3)
 words.add_argument("--only", type=lambda text: text.split(","))
 given = words.parse_args()

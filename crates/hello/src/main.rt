@@ -19,12 +19,17 @@ fn main(rt: HostRuntime) -> Result<()> {
     let (_, message) = client.send(CommandData::Session(SessionCommand::Status(params)))?;
     for sent in browser.step(Step::Text(conn, message))? {
         if let Sent::Text(_, reply) = sent {
-            let reply = reply.as_str();
-            println!(&rt; "{reply}")?;
-            if let Received::Answer(_, ResultData::SessionStatus(status)) = client.take(reply)? {
-                println!(&rt; "ready: {}", status.ready)?;
-            }
+            show(&rt, &mut client, reply.as_str())?;
         }
+    }
+    Ok(())
+}
+
+/// Prints a reply, and what it says to the client.
+fn show(rt: &HostRuntime, client: &mut LocalEnd, reply: &str) -> Result<()> {
+    println!(rt; "{reply}")?;
+    if let Received::Answer(_, ResultData::SessionStatus(status)) = &client.take(reply)? {
+        println!(rt; "ready: {}", status.ready)?;
     }
     Ok(())
 }

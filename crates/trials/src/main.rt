@@ -2,11 +2,9 @@
 //!
 //! - `trials rows FILE..` runs the programs over the rows of these tables.
 //! - `trials refusals` makes the calls that the standard input names, each once more where it finds no memory.
-//! - `trials bench NAME [COUNT [SIZE]]` times the libraries, or writes an input of the programs to measure them by.
+//! - `trials bench NAME [COUNT]` times the libraries.
 #![tactic(auto)]
 
-mod bench;
-mod refusals;
 mod rows;
 
 use anyhow::{Result, bail};
@@ -18,13 +16,13 @@ fn main(rt: HostRuntime) -> Result<ExitCode> {
     let mut words = words(&rt)?;
     let _program = words.next();
     let Some(name) = words.next() else {
-        bail!("usage: trials rows FILE.. | refusals | bench NAME [COUNT [SIZE]]");
+        bail!("usage: trials rows FILE.. | refusals | bench NAME [COUNT]");
     };
     match name.as_str() {
         "rows" => Ok(ExitCode::from(if rows::run(rt, words)? { 0 } else { 1 })),
-        "refusals" => Ok(ExitCode::from(refusals::run(rt))),
+        "refusals" => Ok(ExitCode::from(trial_calls::run(rt))),
         "bench" => {
-            bench::run(rt, words)?;
+            trial_times::run(rt, words)?;
             Ok(ExitCode::from(0))
         }
         _ => bail!("trials are rows, refusals and bench"),

@@ -2,7 +2,7 @@
 ghost use Rattle.std.specs.Prelude.{OnOk};
 ghost use Rattle.bidi_browser.specs.Plans.{HasRoom};
 
-use crate::refusals::fault::RowFault;
+use crate::fault::RowFault;
 use bidi_browser::{Action, Browser, Change, Occurrence, Plan, Refusal};
 use bidi_messages::{CommandData, Method, Named, data_of};
 use bidi_params::ErrorCode;

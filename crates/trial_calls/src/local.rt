@@ -1,7 +1,7 @@
 //! Calls of a local end.
 ghost use Rattle.std.specs.Prelude.{IfOk};
 
-use crate::refusals::fault::RowFault;
+use crate::fault::RowFault;
 use bidi_local::{LocalEnd, LocalFault, Received};
 use bidi_messages::{CommandData, Method, Named, Payload, data_of};
 use bidi_tree::{JsUint, read};

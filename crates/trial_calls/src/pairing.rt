@@ -1,5 +1,5 @@
 //! Both ends over a schedule.
-use crate::refusals::fault::RowFault;
+use crate::fault::RowFault;
 use bidi_lines::{Device, LinesFault};
 use bidi_link::pair;
 use bidi_pair_lines::{ledger_lines, read_steps};

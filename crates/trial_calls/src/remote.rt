@@ -1,5 +1,5 @@
 //! Steps of a remote end.
-use crate::refusals::fault::RowFault;
+use crate::fault::RowFault;
 use bidi_play::read_step_text;
 use bidi_remote::{RemoteEnd, RemoteFault, Sent};
 use std::alloc::{AllocError, Global};

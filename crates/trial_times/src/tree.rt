@@ -1,6 +1,6 @@
 //! Reading and writing trees, beside `serde_json` alone.
-use crate::bench::measure::{Payload, measure_text};
-use crate::bench::texts;
+use crate::measure::{Payload, measure_text};
+use crate::texts;
 use anyhow::{Result, bail};
 use bidi_tree::{read, write};
 use json::Scratch;

@@ -1,7 +1,7 @@
 //! Calls of a WebSocket link, as the server.
 ghost use Rattle.std.specs.Prelude.{◌≤◌, length};
 
-use crate::refusals::fault::RowFault;
+use crate::fault::RowFault;
 use bidi_socket::{Incoming, Link, LinkFault};
 use std::alloc::Global;
 use std::cell::RefCell;

@@ -1,6 +1,6 @@
 //! Judging command texts, and reading and writing events, beside `serde_json` alone.
-use crate::bench::measure::{Payload, measure_text};
-use crate::bench::texts;
+use crate::measure::{Payload, measure_text};
+use crate::texts;
 use anyhow::{Result, bail};
 use bidi_messages::{Sendable, Verdict, judge_with, read_message_with, text_of};
 use json::Scratch;
@@ -56,12 +56,4 @@ pub fn run<R: Clock + Print + Eprint + AllocGlobal>(rt: &R, rounds: u32) -> Resu
     measure_text::<Commands, R>(rt, "short command", texts::SHORT, rounds)?;
     measure_text::<Commands, R>(rt, "middle command", texts::MIDDLE, rounds)?;
     measure_text::<Messages, R>(rt, "event", texts::EVENT, rounds)
-}
-
-/// Writes so many lines of an event.
-pub fn lines<R: Print>(rt: &R, count: u32) -> Result<()> {
-    for _ in 0..count {
-        println!(rt; "{}", texts::EVENT)?;
-    }
-    Ok(())
 }

@@ -1,14 +1,15 @@
 //! Calls of the libraries, each of which is made once more where it finds no memory.
 //!
-//! The first line of standard input names what is called, the others say with what. What is written is the answers. This
-//! part of the program takes no memory itself: what a call is given is made anew for the call, as a part of it. So if one
-//! allocation is refused, whichever it is, one call is made twice, and what is written stays the same.
+//! The first line of standard input names what is called, the others say with what. What is written is the answers. Nothing
+//! here takes memory itself: what a call is given is made anew for the call, as a part of it. So if one allocation is refused,
+//! whichever it is, one call is made twice, and what is written stays the same.
 //!
 //! - `remote`: play lines. Each is taken by a remote end.
 //! - `browser`: a method and its params, or what a page does. Each is planned, reserved and applied by a browser.
 //! - `local`: `send METHOD PARAMS`, `take TEXT`, `lose`.
 //! - `link`: `take` and `send TEXT`, over the bytes of two texts.
 //! - `pair`: pair lines, which are played together.
+#![tactic(auto)]
 
 mod browser;
 mod fault;
@@ -17,7 +18,7 @@ mod local;
 mod pairing;
 mod remote;
 
-use crate::refusals::fault::RowFault;
+use crate::fault::RowFault;
 use std::alloc::Global;
 use std::io;
 use std::io::{Read, Write};
