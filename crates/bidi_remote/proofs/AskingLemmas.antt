@@ -16,7 +16,8 @@ use Rattle.bidi_remote.specs.Machine.Sessions.{is_active, sessions, sessions_mad
 use Rattle.bidi_remote.specs.Machine.Subscriptions.{is_enabled, holds_globally}
 use Rattle.bidi_remote.specs.Machine.Asking.{hears, top_named}
 use Rattle.bidi_remote.specs.State.Heard.{heard_by, is_heard_by, first_top}
-use Rattle.bidi_remote.specs.State.SessionRows.{SessionRow, session_row, session_rows, subscription_rows}
+use Rattle.bidi_active.specs.SessionRows.{SessionRow}
+use Rattle.bidi_remote.specs.State.SessionRows.{session_row, session_rows, subscription_rows}
 use Rattle.bidi_sessions.specs.SubscriptionRows.{any_covers, any_global}
 use Rattle.bidi_remote.proofs.SubscriptionLemmas.{covers-enabled, global-held, find-active}
 

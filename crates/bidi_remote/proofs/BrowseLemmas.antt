@@ -19,7 +19,7 @@ use Rattle.bidi_browser.specs.Plans as planned
 use Rattle.bidi_browser.specs.Plans.{Plans}
 use Rattle.bidi_contexts.specs.View.{seen}
 use Rattle.bidi_scripts.specs.declared.log_entry.Level.{Level}
-use Rattle.bidi_missed.specs.declared.event_text.EventText.{EventText}
+use Rattle.bidi_active.specs.declared.event_text.EventText.{EventText}
 use Rattle.bidi_sessions.specs.declared.step.Sent as declared_sent
 use Rattle.bidi_remote.specs.declared.state.State.{State}
 use Rattle.bidi_remote.specs.declared.turn.Asker.{Asker}
@@ -31,7 +31,7 @@ use Rattle.bidi_remote.specs.Machine.History.{Input, OfPage, Deed, Did, acts, mo
 use Rattle.bidi_remote.specs.Machine.Outcome.{deeds, did, in_page, turn}
 use Rattle.bidi_remote.specs.Machine.Sent.{Sent, sent_unasked, to_hearers, items, told}
 use Rattle.bidi_remote.specs.Machine.Messages.{AllReadBack}
-use Rattle.bidi_missed.specs.Written.{Written, written_of, written_in}
+use Rattle.bidi_active.specs.Written.{Written, written_of, written_in}
 use Rattle.bidi_remote.specs.State.EventTexts.{AreMessages}
 use Rattle.bidi_remote.specs.State.Stands.{AgreeWith, Takes}
 use Rattle.bidi_remote.specs.State.Turns.{Decides, IsMade, IsQuiet, is_log, deed_of, reply_in, asker_in, items_in, sent_of_item, sent_for}

@@ -18,7 +18,7 @@ use Rattle.bidi_messages.specs.Reading.{IsMessageText}
 use Rattle.bidi_methods.specs.declared.event_data.EventName.{EventName}
 use Rattle.bidi_methods.specs.declared.event_data.EventName.TheVariants.{EntryAdded}
 use Rattle.bidi_sessions.specs.declared.connections.Connections.{Connections}
-use Rattle.bidi_remote.specs.declared.sessions.Sessions.{Sessions}
+use Rattle.bidi_active.specs.declared.sessions.Sessions.{Sessions}
 use Rattle.bidi_remote.specs.declared.state.State.{State}
 use Rattle.bidi_remote.specs.Machine.History.{Input, Open, Deed, Scope, Time, Opened, Dropped, Began, Ended}
 use Rattle.bidi_remote.specs.Machine.History.{Subscribed, Cancelled, Dismissed, Did, Told, acts, moment}
@@ -32,9 +32,10 @@ use Rattle.bidi_remote.specs.State.ConnectionRows.{rows, opening_by}
 use Rattle.bidi_sessions.specs.ConnectionRows.{attachment_in, attachment_in_hand}
 use Rattle.bidi_sessions.specs.declared.connections.Attachment as declared_attachment
 use Rattle.bidi_sessions.specs.declared.connections.Attachment.TheVariants as in_code
-use Rattle.bidi_remote.specs.State.SessionView as in_hand
-use Rattle.bidi_remote.specs.State.SessionRows.{SessionRow, session_rows, subscription_rows, begun, subscribed, cancelled, lost, logged, updated, changed}
-use Rattle.bidi_missed.specs.Written.{Written}
+use Rattle.bidi_active.specs.SessionView as in_hand
+use Rattle.bidi_active.specs.SessionRows.{SessionRow, begun, subscribed, cancelled, lost, logged, changed}
+use Rattle.bidi_remote.specs.State.SessionRows.{session_rows, subscription_rows, updated}
+use Rattle.bidi_active.specs.Written.{Written}
 use Rattle.bidi_remote.specs.State.EventTexts.{written}
 use Rattle.bidi_remote.specs.State.MissedRows.{place_of, IsEntry}
 use Rattle.bidi_remote.specs.State.Stands.{AgreeWith}

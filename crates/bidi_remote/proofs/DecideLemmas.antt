@@ -32,17 +32,18 @@ use Rattle.bidi_remote.specs.Machine.LogBuffer.{missed, waiting_for}
 use Rattle.bidi_remote.specs.Machine.Outcome.{is_ready, new_outcome, all_named, scope_asked, subscribe_outcome}
 use Rattle.bidi_remote.specs.Machine.Outcome.{subscriptions_named, unsubscribe_by_events_outcome}
 use Rattle.bidi_remote.specs.Machine.Sent.{items, action_in, announcements}
-use Rattle.bidi_missed.specs.Written.{Written, written_in}
+use Rattle.bidi_active.specs.Written.{Written, written_in}
 use Rattle.bidi_remote.specs.State.EventTexts.{written, AreMessages}
 use Rattle.bidi_remote.specs.State.MissedRows.{places, IsEntry}
-use Rattle.bidi_missed.specs.Places.{waiting}
-use Rattle.bidi_remote.specs.State.SessionView as in_hand
+use Rattle.bidi_active.specs.Places.{waiting}
+use Rattle.bidi_active.specs.SessionView as in_hand
 use Rattle.bidi_sessions.specs.SubscriptionView.{row_of}
 use Rattle.bidi_remote.specs.State.Stands.{AgreeWith}
 use Rattle.bidi_sessions.specs.SubscriptionRows.{SubscriptionRow}
-use Rattle.bidi_remote.specs.State.SessionRows.{session_row, session_rows, row_at, subscription_rows, row_in, begun}
+use Rattle.bidi_remote.specs.State.SessionRows.{session_row, session_rows, row_at, subscription_rows}
+use Rattle.bidi_active.specs.SessionRows.{row_in, begun}
 use Rattle.bidi_sessions.specs.SubscriptionRows.{any_covers, any_global, numbers_named}
-use Rattle.bidi_missed.specs.News.{is_new}
+use Rattle.bidi_active.specs.News.{is_new}
 use Rattle.bidi_browser.specs.View.{result_tree}
 use Rattle.bidi_browser.specs.declared.command_result.CommandResult.TheVariants.{Data}
 use Rattle.bidi_remote.specs.State.Turns.{Decides, IsMade, IsOfSessions, deed_of, announced_by}

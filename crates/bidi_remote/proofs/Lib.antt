@@ -1,5 +1,4 @@
 pub mod CommandLemmas
-pub mod CopyLemmas
 pub mod ConnectionLemmas
 pub mod SessionLemmas
 pub mod PlaceLemmas

@@ -10,7 +10,8 @@ use Rattle.bidi_remote.specs.Machine.LogBuffer.{missed}
 use Rattle.bidi_remote.specs.Machine.Sessions.{is_active, sessions, sessions_made}
 use Rattle.bidi_remote.specs.Machine.Subscriptions.{is_enabled}
 use Rattle.bidi_remote.specs.State.EventTexts.{written}
-use Rattle.bidi_remote.specs.State.SessionRows.{session_row, session_rows, subscription_rows, logged}
+use Rattle.bidi_remote.specs.State.SessionRows.{session_row, session_rows, subscription_rows}
+use Rattle.bidi_active.specs.SessionRows.{logged}
 use Rattle.bidi_sessions.specs.SubscriptionRows.{any_covers}
 use Rattle.bidi_sessions.proofs.ListLemmas.{each-passing, map-twice}
 use Rattle.bidi_remote.proofs.PlaceLemmas.{places-more}

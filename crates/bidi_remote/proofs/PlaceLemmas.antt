@@ -12,10 +12,10 @@ use Rattle.bidi_contexts.specs.Occurrences.{Occurrence}
 use Rattle.bidi_remote.specs.Machine.History.{Deed}
 use Rattle.bidi_remote.specs.Machine.LogBuffer.{Missed, missed, just_missed, announced_at, last_hundred, waiting_for}
 use Rattle.bidi_remote.specs.Machine.Sent.{occurrence_text}
-use Rattle.bidi_missed.specs.Written.{Written}
+use Rattle.bidi_active.specs.Written.{Written}
 use Rattle.bidi_remote.specs.State.EventTexts.{written, AreMessages}
 use Rattle.bidi_remote.specs.State.MissedRows.{place_of, places, IsEntry}
-use Rattle.bidi_missed.specs.Places.{waiting, with_missed, left, all_left}
+use Rattle.bidi_active.specs.Places.{waiting, with_missed, left, all_left}
 use Rattle.bidi_sessions.specs.Limits.{most_missed}
 
 -- ---- the last hundred of a list

@@ -24,14 +24,16 @@ use Rattle.bidi_remote.specs.Machine.Subscriptions.{subscriptions_made, next_sub
 use Rattle.bidi_remote.specs.Machine.Subscriptions.{is_global, is_kept, is_live, holds, holds_globally, covers, is_enabled}
 use Rattle.bidi_remote.specs.Machine.Subscriptions.{is_newly_enabled}
 use Rattle.bidi_sessions.specs.SubscriptionRows.{SubscriptionRow}
-use Rattle.bidi_remote.specs.State.SessionRows.{row_at, events_left, subscription_rows, SessionRow}
+use Rattle.bidi_remote.specs.State.SessionRows.{row_at, events_left, subscription_rows}
+use Rattle.bidi_active.specs.SessionRows.{SessionRow}
 use Rattle.bidi_remote.specs.State.SessionRows.{session_row, session_rows}
 use Rattle.bidi_sessions.specs.SubscriptionRows.{any_covers, any_global, row_covers, without}
 use Rattle.bidi_sessions.specs.SubscriptionRows.{loses_all, stripped, dismissed}
-use Rattle.bidi_remote.specs.State.SessionRows.{begun, subscribed, cancelled, updated, changed}
-use Rattle.bidi_missed.specs.News.{is_new}
+use Rattle.bidi_active.specs.SessionRows.{begun, subscribed, cancelled, changed}
+use Rattle.bidi_remote.specs.State.SessionRows.{updated}
+use Rattle.bidi_active.specs.News.{is_new}
 use Rattle.bidi_remote.specs.State.MissedRows.{places}
-use Rattle.bidi_missed.specs.Places.{all_left}
+use Rattle.bidi_active.specs.Places.{all_left}
 use Rattle.bidi_remote.specs.Machine.LogBuffer.{missed}
 use Rattle.bidi_sessions.proofs.EventLemmas.{is_among-all, some_passes, any_event, is_among-filter, filter-is_among}
 use Rattle.bidi_sessions.proofs.ListLemmas.{each-passing}

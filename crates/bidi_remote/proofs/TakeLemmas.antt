@@ -21,7 +21,7 @@ use Rattle.bidi_remote.specs.Machine.Sent.{Sent, action_in, items, told}
 use Rattle.bidi_remote.specs.Machine.Messages.{ReadsBack, AllReadBack}
 use Rattle.bidi_remote.specs.State.Stands.{AgreeWith, IsShort, Takes}
 use Rattle.bidi_remote.specs.State.Asked.{Asks}
-use Rattle.bidi_missed.specs.Written.{written_in}
+use Rattle.bidi_active.specs.Written.{written_in}
 use Rattle.bidi_remote.specs.State.EventTexts.{AreMessages}
 use Rattle.bidi_remote.specs.State.Turns.{Decides, IsMade, deed_of, asker_in, items_in, sent_for}
 use Rattle.bidi_sessions.specs.View.{sent_of}

@@ -21,10 +21,11 @@ use Rattle.bidi_remote.specs.Machine.Sent.{Sent, Text, Close, occurrence_text, t
 use Rattle.bidi_sessions.specs.ConnectionRows as connections
 use Rattle.bidi_remote.specs.State.ConnectionRows.{rows}
 use Rattle.bidi_sessions.specs.ConnectionRows.{to_each}
-use Rattle.bidi_remote.specs.State.SessionRows.{SessionRow, session_row, session_rows, subscription_rows}
+use Rattle.bidi_active.specs.SessionRows.{SessionRow}
+use Rattle.bidi_remote.specs.State.SessionRows.{session_row, session_rows, subscription_rows}
 use Rattle.bidi_sessions.specs.SubscriptionRows.{any_covers}
 use Rattle.bidi_remote.specs.Machine.Messages.{ReadsBack, AllReadBack}
-use Rattle.bidi_missed.specs.Written.{Written}
+use Rattle.bidi_active.specs.Written.{Written}
 use Rattle.bidi_remote.specs.State.EventTexts.{AreMessages}
 use Rattle.bidi_remote.specs.State.Routes.{to_one, to_all}
 use Rattle.bidi_remote.specs.State.Turns.{sent_for, sent_of_item, to_subscriber, to_subscriber_in, closed_in}

@@ -9,7 +9,7 @@ use Rattle.bidi_remote.specs.Machine.History.{Drop, Heard, NotText, Deed, Droppe
 use Rattle.bidi_remote.specs.Machine.Connections.{Attachment, Shut, is_shut, attachment_of, connections_of}
 use Rattle.bidi_remote.specs.Machine.Outcome.{Lost, Error, replied, answered, asked, outcome, turn}
 use Rattle.bidi_remote.specs.Machine.Sent.{Text, items, announced, closed, sent_to, action_in, told}
-use Rattle.bidi_missed.specs.Written.{Written}
+use Rattle.bidi_active.specs.Written.{Written}
 use Rattle.bidi_remote.specs.State.EventTexts.{written}
 use Rattle.bidi_remote.specs.State.Turns.{announced_by, sent_of_item, sent_for, to_subscriber}
 use Rattle.bidi_sessions.proofs.ListLemmas.{flat_map-map, flat_map-same}

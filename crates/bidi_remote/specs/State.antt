@@ -3,7 +3,6 @@ pub mod ConnectionRows
 pub mod EventTexts
 pub mod MissedRows
 pub mod SessionRows
-pub mod SessionView
 pub mod Routes
 pub mod RowsRead
 pub mod Asked

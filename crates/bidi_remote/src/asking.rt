@@ -8,12 +8,12 @@ ghost use Rattle.bidi_remote.specs.Machine.Asking.{session_in, top_named, hears}
 ghost use Rattle.bidi_remote.specs.Machine.Outcome.{deeds};
 ghost use Rattle.bidi_remote.specs.Machine.Sent.{Text};
 ghost use Rattle.bidi_remote.specs.State.Heard.{heard_by, first_top};
-ghost use Rattle.bidi_remote.specs.State.SessionView.{session_row_of};
+ghost use Rattle.bidi_active.specs.SessionView.{session_row_of};
 ghost use Rattle.bidi_sessions.specs.View.{sent_of};
 
 use crate::page_steps::told_by;
-use crate::sessions::Session;
 use crate::state::State;
+use bidi_active::Session;
 use bidi_browser::{Action, Occurrence, Plan, Refusal, Top};
 use bidi_messages::EventName;
 use bidi_scripts::Level;

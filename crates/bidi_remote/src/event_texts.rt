@@ -4,12 +4,12 @@ ghost use Rattle.std.specs.List.{AllByRecursion};
 ghost use Rattle.bidi_contexts.specs.View.{occurrence_of, seen};
 ghost use Rattle.bidi_messages.specs.Reading.{IsMessageText};
 ghost use Rattle.bidi_remote.specs.State.EventTexts.{written, AreMessages};
-ghost use Rattle.bidi_missed.specs.Written.{written_of, written_in};
+ghost use Rattle.bidi_active.specs.Written.{written_of, written_in};
 ghost use Rattle.bidi_messages.specs.Payloads.{EventIsWell};
 
+use bidi_active::EventText;
 use bidi_browser::Occurrence;
 use bidi_messages::{EventData, EventName, Message, Payload, event_text};
-use bidi_missed::EventText;
 use bidi_shape::Shape;
 use std::alloc::{AllocError, Global};
 use std::rc::Rc;

@@ -18,7 +18,6 @@ mod refusing;
 mod remote_end;
 mod rows;
 mod session;
-mod sessions;
 mod state;
 mod striking;
 mod taking;

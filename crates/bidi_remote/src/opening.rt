@@ -5,11 +5,11 @@ ghost use Rattle.bidi_remote.specs.Machine.History.{Input, Open, Drop};
 ghost use Rattle.bidi_remote.specs.Machine.Connections.{is_open};
 ghost use Rattle.bidi_remote.specs.Machine.Outcome.{deeds, turn};
 ghost use Rattle.bidi_remote.specs.State.ConnectionRows.{opening_by};
-ghost use Rattle.bidi_remote.specs.State.SessionView.{opened_by};
+ghost use Rattle.bidi_active.specs.SessionView.{opened_by};
 
 use crate::refusing::only;
-use crate::sessions::Opening;
 use crate::state::State;
+use bidi_active::Opening;
 use bidi_sessions::{Attachment, Sent};
 use bidi_tree::JsUint;
 use std::alloc::{AllocError, Global};

@@ -1,7 +1,7 @@
 //! The state of a remote end.
 ghost use Rattle.std.specs.Prelude.{[], IfOk};
 
-use crate::sessions::Sessions;
+use bidi_active::Sessions;
 use bidi_browser::Browser;
 use bidi_sessions::Connections;
 use bidi_tree::JsUint;

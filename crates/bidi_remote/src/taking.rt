@@ -23,7 +23,7 @@ use std::alloc::{AllocError, Global};
 impl State {
     ghost use Rattle.bidi_remote.specs.State.Stands.{AgreeWith, Keeps, IsShort, Takes};
     ghost use Rattle.bidi_remote.specs.State.Turns.{HasRoom, IsMade, IsWellTold, deed_of, asker_in, items_in, sent_for};
-    ghost use Rattle.bidi_missed.specs.Written.{written_in};
+    ghost use Rattle.bidi_active.specs.Written.{written_in};
     ghost use Rattle.bidi_remote.specs.State.EventTexts.{AreMessages};
 
     /// Takes one step, and returns what is sent.

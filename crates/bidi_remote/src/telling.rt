@@ -12,11 +12,11 @@ ghost use Rattle.bidi_messages.specs.Reading.{IsMessageText};
 ghost use Rattle.bidi_remote.specs.Replies.{ReadsAs};
 ghost use Rattle.bidi_remote.specs.Machine.Sent.{Text, to_hearers};
 ghost use Rattle.bidi_remote.specs.State.EventTexts.{written, AreMessages};
-ghost use Rattle.bidi_missed.specs.Written.{written_of, written_in};
+ghost use Rattle.bidi_active.specs.Written.{written_of, written_in};
 ghost use Rattle.bidi_sessions.specs.ConnectionRows.{rows_in, to_each};
 ghost use Rattle.bidi_sessions.specs.SubscriptionRows.{any_covers};
-ghost use Rattle.bidi_remote.specs.State.SessionView as sessions;
-ghost use Rattle.bidi_remote.specs.State.SessionView.{session_row_of};
+ghost use Rattle.bidi_active.specs.SessionView as sessions;
+ghost use Rattle.bidi_active.specs.SessionView.{session_row_of};
 ghost use Rattle.bidi_remote.specs.Machine.Messages.{AllReadBack};
 ghost use Rattle.bidi_remote.specs.State.Routes.{to_one, to_all};
 ghost use Rattle.bidi_remote.specs.State.Stands.{AgreeWith};
@@ -25,14 +25,13 @@ ghost use Rattle.bidi_sessions.specs.View.{sent_of, sent_if};
 ghost use Rattle.bidi_messages.specs.Message.{response_text};
 ghost use Rattle.bidi_messages.specs.Payloads.{EventIsWell};
 
-use crate::sessions::Session;
 use crate::state::State;
 use crate::turn::{Change, Reply, Telling};
+use bidi_active::{EventText, Session};
 use bidi_browser::{CommandResult, Occurrence, Top};
 use bidi_messages::{
     EventData, EventName, Message, Payload, event_text, response_around, response_text,
 };
-use bidi_missed::EventText;
 use bidi_sessions::{Connections, Sent, SentText};
 use bidi_shape::Shape;
 use bidi_tree::JsUint;

@@ -3,9 +3,9 @@ ghost use Rattle.std.specs.Option.{option_zip};
 ghost use Rattle.std.specs.Prelude.{◌≡◌, Some, [], option_map};
 ghost use Rattle.bidi_browser.specs.declared.command_result.CommandResult.TheVariants as CommandResult;
 
+use bidi_active::{EventText, LogBuffer};
 use bidi_browser::{Change as BrowserChange, CommandResult, Occurrence, Plan};
 use bidi_messages::{EventName, ResultData};
-use bidi_missed::{EventText, LogBuffer};
 use bidi_sessions::Scope;
 use bidi_tree::JsUint;
 use std::alloc::Global;

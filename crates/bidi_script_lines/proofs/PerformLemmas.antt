@@ -10,7 +10,7 @@ use Rattle.bidi_rows.specs.Templates.{AreTemplateTexts}
 use Rattle.bidi_scripted.specs.declared.fault.ScriptFault.{ScriptFault}
 use Rattle.bidi_scripted.specs.declared.fault.ScriptFault.TheVariants.{NoMemory, WornOut, BadRow, TooManyRows, TooMuchKept, BadName, TooManyNames, NotHeld}
 use Rattle.bidi_scripted.specs.Faults.{RefusesRow, RefusesFollower, RefusesNames, RefusesEvent, RefusesRelease, RefusesAnswer}
-use Rattle.bidi_scripted.specs.Names.{words, can_be_known}
+use Rattle.bidi_names.specs.Names.{words, can_be_known}
 use Rattle.bidi_scripted.specs.Script.{Script, most_rows, most_known, can_keep, has_room_for_row, has_room_for_follower, has_room_for_names}
 use Rattle.bidi_scripted.specs.Script as script
 use Rattle.std.specs.Option.{option_map_or}

@@ -18,7 +18,7 @@ use Rattle.bidi_rows.specs.Reading.{IsAnswer, IsAnsweringRow, IsHoldingRow, IsEv
 use Rattle.bidi_rows.specs.Templates.{AreTemplateTexts}
 use Rattle.bidi_sessions.specs.Step as steps
 use Rattle.bidi_scripted.specs.Script as script
-use Rattle.bidi_scripted.specs.Names.{words, can_be_known}
+use Rattle.bidi_names.specs.Names.{words, can_be_known}
 use Rattle.bidi_scripted.specs.Script.{Script, no_script, has_room_for_row, has_room_for_follower, has_room_for_names, held_by, without_held, without_method, with_follower, with_names, with_row}
 use Rattle.bidi_scripted.specs.Sending.{emitted, release_sent}
 use Rattle.bidi_scripted.specs.View.{script_of}

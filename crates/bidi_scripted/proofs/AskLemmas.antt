@@ -1,55 +1,19 @@
--- What a command asks of names, and that it asks nothing while none are known.
-use Rattle.std.proofs.Common.{◌≡◌, ◌∙◌, ℕ, Bool, true, false, Option, Some, None, List, [], ◌∷◌, map, option_map, String, Global, refl, ap, arith}
+-- A text is taken whole while no names are known.
+use Rattle.std.proofs.Common.{◌≡◌, ℕ, Bool, true, false, Option, Some, None, List, [], ◌∷◌, option_map, String, Global, refl, arith}
 use Rattle.std.proofs.lemmas.Bool.Decides.{Decides-eqb}
-use Rattle.std.specs.Prelude.{◌==◌, ◌&&◌, if◌then◌else◌, length, filter, codes, bytes_eq, option_and_then}
-use Rattle.json.specs.Json.{Json, string}
+use Rattle.std.specs.Prelude.{◌==◌, if◌then◌else◌, length, codes, bytes_eq, option_and_then}
+use Rattle.json.specs.Json.{Json}
 use Rattle.json.specs.Find.{get}
-use Rattle.json.specs.Tree.{ItemsHaveNumbers}
-use Rattle.json.specs.Value.{items_of}
 use Rattle.bidi_remote.specs.Machine.History.{Deed}
 use Rattle.bidi_remote.specs.Machine.Connections.{attachment_of}
 use Rattle.bidi_remote.specs.Machine.Asking.{session_in}
 use Rattle.bidi_rows.specs.Command.{Command, command_of}
-use Rattle.bidi_sessions.proofs.ListLemmas.{filter-none}
-use Rattle.bidi_scripted.specs.Names.{is_known, is_name}
 use Rattle.bidi_scripted.specs.Script.{Script}
-use Rattle.bidi_scripted.specs.Subscriptions.{Named}
-use Rattle.bidi_scripted.specs.View.{texts_of}
-use Rattle.bidi_scripted.specs.Asked.{Wanted, Subscribes, listed, ids_of, of_any, wanted, wanted_with, ended_or, asked_with, asked_by, taken_for, taken_by, text_taken}
-
--- strings have no numbers
-pub strings-numbers : (ss : List (List ℕ)) → ItemsHaveNumbers (items_of (map string ss))
-strings-numbers [] = tt
-strings-numbers (s ∷ ss) = (tt, strings-numbers ss)
-
--- what is asked of some names
-pub told : (v w : Wanted) → (length w.names == 0) ≡ false → v ≡ w → Some v ≡ of_any w
-told v w some is = rw some (ap Some is)
-
--- what is asked, part by part
-pub same-wanted : (id : ℕ) (n n' f f' : List (List ℕ)) (p p' : Option (List ℕ)) (c u : Option (List (List ℕ))) → n ≡ n' → f ≡ f' → p ≡ p'
-    → (let v : Wanted = record { id = id; names = n; foreign = f; part = p; contexts = c; users = u } in
-    let w : Wanted = record { id = id; names = n'; foreign = f'; part = p'; contexts = c; users = u } in v ≡ w)
-same-wanted id n n' f f' p p' c u en ef ep =
-    let with : List (List ℕ) → List (List ℕ) → Option (List ℕ) → Wanted = λ x y z. record { id = id; names = x; foreign = y; part = z; contexts = c; users = u } in
-    ap (λ x. with x f p) en ∙ (ap (λ y. with n' y p) ef ∙ ap (λ z. with n' f' z) ep)
-
--- ---- nothing is known
-
-and-false : (b : Bool) → (b && false) ≡ false
-and-false true = refl
-and-false false = refl
-
--- no name is known
-none-known : (names : List (List ℕ)) → filter (is_known []) names ≡ []
-none-known names = filter-none (is_known []) names (λ name. and-false (is_name name))
-
--- nothing is asked of names
-none-wanted : (command : Command) (names : Option (List (List ℕ))) (contexts users : Option (Option (List (List ℕ)))) → wanted_with [] command names contexts users ≡ None
-none-wanted command None contexts users = refl
-none-wanted command (Some names) None users = refl
-none-wanted command (Some names) (Some contexts) None = refl
-none-wanted command (Some names) (Some contexts) (Some users) = rw (none-known names) refl
+use Rattle.bidi_names.specs.Subscriptions.{Named}
+use Rattle.bidi_names.specs.View.{texts_of}
+use Rattle.bidi_names.specs.Asked.{Wanted, Subscribes, listed, ids_of, wanted, ended_or, asked_with, asked_by}
+use Rattle.bidi_scripted.specs.Kept.{taken_for, taken_by, text_taken}
+use Rattle.bidi_names.proofs.AskLemmas.{none-wanted}
 
 module _ (held : List Named) (s : ℕ) (text : List ℕ) where
   all-ended : (ids : Option (List (List ℕ))) (w : Option Wanted) → w ≡ None → taken_for held s text (ended_or ids w) ≡ text

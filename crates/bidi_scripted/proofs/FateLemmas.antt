@@ -21,7 +21,7 @@ use Rattle.bidi_messages.specs.Message.{error_text}
 use Rattle.bidi_remote.specs.declared.remote_end.RemoteEnd.{RemoteEnd}
 use Rattle.bidi_scripted.specs.declared.scripted_end.Taken.{Taken}
 use Rattle.bidi_scripted.specs.Sending.{answer_sent}
-use Rattle.bidi_scripted.specs.Subscriptions.{Named}
+use Rattle.bidi_names.specs.Subscriptions.{Named}
 use Rattle.bidi_scripted.specs.Script.{Script, no_script, is_plain, has_room_for_command, with_use, with_held}
 use Rattle.bidi_scripted.specs.Fate.{Fate, HandedOn, Answered, Held, Unheld, AsksNames, asks_names, by_action, by_row, by_command, fate, after_step}
 use Rattle.bidi_scripted.specs.Becomes.{Becomes, IsHandedOn, IsHeard, IsTaken, IsFound, found_names, TakesPart, sent_by}

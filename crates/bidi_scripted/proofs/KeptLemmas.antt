@@ -1,11 +1,10 @@
--- Subscriptions to names that are made, lose some of their names, or end.
-use Rattle.std.proofs.Common.{◌≡◌, ◌∙◌, ◌<◌, ◌+◌, ◌^◌, ℕ, Bool, true, false, true≢false, not, List, [], ◌∷◌, ◌++◌, map, Option, Some, None, unwrap_or, append-nil, append_assoc, Result, Ok, Err, IfOk, IfSome, refl, sym, ap, ap₂, arith}
-use Rattle.std.proofs.lemmas.Bool.Decides.{nat_tests}
-use Rattle.std.specs.Prelude.{◌==◌, ◌&&◌, if◌then◌else◌, is_some, nat_lt, nat_le, bytes_eq, filter, option_to_list}
-use Rattle.std.specs.List.{list_any, list_all, cons_option}
+-- Subscriptions to names that are made, are dismissed, or end.
+use Rattle.std.proofs.Common.{◌≡◌, ◌∙◌, ◌<◌, ◌+◌, ◌^◌, ℕ, Bool, true, false, true≢false, not, List, [], ◌∷◌, ◌++◌, map, Option, Some, None, unwrap_or, append-nil, append_assoc, Result, Ok, Err, IfOk, IfSome, sym, ap, ap₂}
+use Rattle.std.specs.Prelude.{if◌then◌else◌, is_some, option_to_list}
+use Rattle.std.specs.List.{list_all, cons_option}
 use Rattle.bidi_sessions.specs.Step.{Step}
 use Rattle.bidi_sessions.specs.View.{sent_of}
-use Rattle.bidi_sessions.specs.Scope.{Scope, is_global}
+use Rattle.bidi_sessions.specs.Scope.{Scope}
 use Rattle.bidi_sessions.proofs.ListLemmas.{some-same}
 use Rattle.bidi_remote.specs.Machine.History.{Deed}
 use Rattle.bidi_remote.specs.Machine.Sent.{Sent}
@@ -14,19 +13,11 @@ use Rattle.bidi_remote.specs.declared.remote_end.RemoteEnd.{RemoteEnd}
 use Rattle.bidi_remote.specs.declared.remote_end.RemoteFault.{RemoteFault}
 use Rattle.bidi_scripted.specs.declared.scripted_end.Taken.{Taken}
 use Rattle.bidi_scripted.specs.Becomes.{IsHandedOn}
-use Rattle.bidi_scripted.specs.declared.subscriptions.NamedSubscription.{NamedSubscription}
-use Rattle.bidi_scripted.specs.Script.{total}
-use Rattle.bidi_scripted.specs.Subscriptions.{Named, named_of}
-use Rattle.bidi_scripted.specs.Asked.{Asked, Wanted, Subscribes, Unsubscribes, holds_globally}
-use Rattle.bidi_scripted.specs.Kept.{stripped, dismissed, of_active, succeeded, Gives, IsScope, Keeps, KeptFor, names_in, is_too_many, is_refused}
-use Rattle.bidi_scripted.proofs.ReplyLemmas.{none_some}
-
-pub stripped-global : (s : ℕ) (names left : List (List ℕ)) (n : Named) → ((n.session == s) && is_global n.scope) ≡ true
-    → left ≡ filter (λ name. not (list_any (bytes_eq name) names)) n.names → record n { names = left } ≡ stripped s names n
-stripped-global s names left n global is = rw global (ap (λ ns. record n { names = ns }) is)
-
-pub stripped-other : (s : ℕ) (names : List (List ℕ)) (n : Named) → ((n.session == s) && is_global n.scope) ≡ false → stripped s names n ≡ n
-stripped-other s names n other = rw other refl
+use Rattle.bidi_names.specs.Subscriptions.{Named, holds_globally, dismissed, of_active}
+use Rattle.bidi_names.specs.Asked.{Asked, Wanted, Subscribes, Unsubscribes}
+use Rattle.bidi_names.specs.Replies.{succeeded, Gives}
+use Rattle.bidi_scripted.specs.Kept.{IsScope, Keeps, KeptFor, is_refused}
+use Rattle.bidi_names.proofs.ReplyLemmas.{none_some}
 
 -- ---- what a session asked, and what came of it
 
@@ -90,25 +81,3 @@ none-dismissed past s w sent old new not_all same = rw not_all same
 pub all-dismissed : (past : List Deed) (s : ℕ) (w : Wanted) (sent : List Sent) (old new : List Named) → list_all (holds_globally old s) w.foreign ≡ true
     → new ≡ (if succeeded sent then dismissed s w.names old else old) → Keeps past s (Some (Unsubscribes w)) sent old new
 all-dismissed past s w sent old new all is = rw all is
-
--- ---- how many names a session has
-
-all-in : (s : ℕ) (xs : List NamedSubscription) → map (names_in s) (map named_of xs) ≡ map (λ n. names_in s (named_of n)) xs
-all-in s [] = refl
-all-in s (x ∷ xs) = ap (λ ns. names_in s (named_of x) ∷ ns) (all-in s xs)
-
-room : (left sum more : ℕ) → left + sum ≡ 1024 → nat_le more left ≡ not (nat_lt 1024 (sum + more))
-room left sum more is = grind (arith, nat_tests, is)
-
-pub room-left : (s : ℕ) (xs : List NamedSubscription) (left more : ℕ) → left + total (map (λ n. names_in s (named_of n)) xs) ≡ 1024
-    → nat_le more left ≡ not (is_too_many s (map named_of xs) more)
-room-left s xs left more is =
-    room left (total (map (λ n. names_in s (named_of n)) xs)) more is ∙ ap (λ ns. not (nat_lt 1024 (total ns + more))) (sym (all-in s xs))
-
-none-left : (sum more : ℕ) → 1024 < sum → false ≡ not (nat_lt 1024 (sum + more))
-none-left sum more is = grind (arith, nat_tests, is)
-
-pub no-room : (s : ℕ) (xs : List NamedSubscription) (more : ℕ) → 1024 < total (map (λ n. names_in s (named_of n)) xs)
-    → false ≡ not (is_too_many s (map named_of xs) more)
-no-room s xs more is =
-    none-left (total (map (λ n. names_in s (named_of n)) xs)) more is ∙ ap (λ ns. not (nat_lt 1024 (total ns + more))) (sym (all-in s xs))

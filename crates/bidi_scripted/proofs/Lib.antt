@@ -1,9 +1,8 @@
-pub mod TotalLemmas
+pub mod RoomLemmas
 pub mod UseLemmas
 pub mod FateLemmas
 pub mod MethodLemmas
 pub mod SendLemmas
 pub mod FaultLemmas
 pub mod AskLemmas
-pub mod ReplyLemmas
 pub mod KeptLemmas

@@ -25,12 +25,11 @@ use Rattle.bidi_scripted.specs.declared.finding.Found.TheVariants as in_code
 use Rattle.bidi_scripted.specs.declared.finding.Looked.{Looked}
 use Rattle.bidi_scripted.specs.declared.finding.Looked.TheVariants as looked
 use Rattle.bidi_sessions.specs.declared.step.Sent as declared_step
-use Rattle.bidi_scripted.specs.Subscriptions.{Named}
+use Rattle.bidi_names.specs.Subscriptions.{Named}
 use Rattle.bidi_scripted.specs.Script.{Script, no_script, with_use, with_held}
 use Rattle.bidi_remote.specs.Machine.Connections.{attachment_of}
 use Rattle.bidi_remote.specs.Machine.Asking.{session_in}
-use Rattle.bidi_scripted.specs.Asked.{text_taken}
-use Rattle.bidi_scripted.specs.Kept.{IsKept}
+use Rattle.bidi_scripted.specs.Kept.{text_taken, IsKept}
 use Rattle.bidi_scripted.specs.Fate.{Fate, HandedOn, Answered, Held, Unheld, AsksNames, asks_names, fate, after_step}
 use Rattle.bidi_scripted.specs.Sending.{answer_sent}
 

@@ -11,7 +11,7 @@ use Rattle.bidi_remote.specs.declared.remote_end.RemoteFault.{RemoteFault}
 use Rattle.bidi_remote.specs.declared.remote_end.RemoteFault.TheVariants as remote
 use Rattle.bidi_scripted.specs.declared.fault.ScriptFault.{ScriptFault}
 use Rattle.bidi_scripted.specs.declared.fault.ScriptFault.TheVariants as script
-use Rattle.bidi_scripted.specs.Names.{words, can_be_known}
+use Rattle.bidi_names.specs.Names.{words, can_be_known}
 use Rattle.bidi_scripted.specs.Script.{Script, Held, most_rows, most_known, can_keep}
 
 -- the fault of a scripted end if its remote end has this one

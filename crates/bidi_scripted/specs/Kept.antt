@@ -1,55 +1,49 @@
--- What becomes of the subscriptions to names that a test made known, when the machine has taken a command. This project's own.
-use Rattle.std.specs.Prelude.{◌≡◌, ℕ, ◌==◌, ◌+◌, ◌-◌, ◌<◌, ◌^◌, nat_lt, Bool, true, false, not, ◌&&◌, if◌then◌else◌, List, [], ◌∷◌, ◌++◌, map, length, filter, filter_map, codes, bytes_eq, eqb, slice_get, Option, Some, None, option_map, option_and_then}
-use Rattle.std.specs.List.{list_any, list_all, ends_with}
+-- What the machine takes of a message that asks for names of a test, and what becomes of the subscriptions to them. This project's own.
+use Rattle.std.specs.Prelude.{◌≡◌, ℕ, ◌+◌, ◌-◌, ◌<◌, ◌^◌, Bool, true, false, not, ◌&&◌, if◌then◌else◌, List, [], ◌∷◌, ◌++◌, map, length, filter_map, Option, Some, None, option_map}
+use Rattle.std.specs.List.{list_all}
 use Rattle.bidi_params.specs.declared.error_code.ErrorCode.TheVariants.{UnknownError}
 use Rattle.bidi_messages.specs.Message.{error_text}
 use Rattle.bidi_handles.specs.Ids.{id_text}
 use Rattle.bidi_handles.specs.declared.id.IdKind.TheVariants.{Subscription}
 use Rattle.bidi_contexts.specs.Users.{user_id}
 use Rattle.bidi_sessions.specs.View.{sent_of}
-use Rattle.bidi_sessions.specs.Scope.{Scope, All, Below, Within, is_global, is_listed}
+use Rattle.bidi_sessions.specs.Scope.{Scope, All, Below, Within}
 use Rattle.bidi_remote.specs.Machine.History.{Deed, acts}
 use Rattle.bidi_remote.specs.Machine.Sessions.{sessions}
-use Rattle.bidi_remote.specs.Machine.Asking.{top_named}
-use Rattle.bidi_remote.specs.Machine.Sent.{Sent, Text, Close, Opened, Denied, Lost, NoEffect}
+use Rattle.bidi_remote.specs.Machine.Connections.{attachment_of}
+use Rattle.bidi_remote.specs.Machine.Asking.{session_in, top_named}
+use Rattle.bidi_remote.specs.Machine.Sent.{Sent, Text}
 use Rattle.bidi_scripted.specs.declared.scripted_end.Taken.{Taken}
-use Rattle.bidi_scripted.specs.Script.{most_names, total}
-use Rattle.bidi_scripted.specs.Subscriptions.{Named}
-use Rattle.bidi_scripted.specs.Asked.{Asked, Wanted, Subscribes, Unsubscribes, Ends, asked_of, holds_globally}
+use Rattle.bidi_names.specs.Subscriptions.{Named, holds_globally, dismissed, cancelled, of_active, is_too_many}
+use Rattle.bidi_names.specs.Replies.{succeeded, Gives, AreNumbers}
+use Rattle.bidi_scripted.specs.Script.{Script}
+use Rattle.bidi_names.specs.Asked.{Asked, Wanted, Subscribes, Unsubscribes, Ends, asked_of}
 
--- ---- what the machine answered
+-- ---- what the machine takes
 
--- the text of a message that is sent
-abbrev pub text_in : Sent → Option (List ℕ)
-text_in (Text c text) = Some text
-text_in (Close c) = None
-text_in (Opened c) = None
-text_in (Denied c) = None
-text_in (Lost c) = None
-text_in NoEffect = None
+-- the part of a text, or else all of it
+abbrev pub part_or : Option (List ℕ) → List ℕ → List ℕ
+part_or None text = text
+part_or (Some part) text = part
 
--- whether there is a text, and it ends so
-abbrev pub ends_in : List ℕ → Option (List ℕ) → Bool
-ends_in end None = false
-ends_in end (Some text) = ends_with eqb text end
+-- the text that the machine takes for a message of a session that asks this: without the names that only the test has, unless it is to
+-- unsubscribe from one of these that the session does not hold for all contexts
+abbrev pub taken_for : List Named → ℕ → List ℕ → Option Asked → List ℕ
+taken_for held s text None = text
+taken_for held s text (Some (Subscribes w)) = part_or w.part text
+taken_for held s text (Some (Unsubscribes w)) = if list_all (holds_globally held s) w.foreign then part_or w.part text else text
+taken_for held s text (Some (Ends ids)) = text
 
--- the text of the last thing that is sent, if it is a message
-abbrev pub last_text : List Sent → Option (List ℕ)
-last_text sent = option_and_then text_in (slice_get sent (length sent - 1))
+-- the text that the machine takes for a message on a connection that speaks for this session, or for none
+abbrev pub taken_by : Script → List ℕ → Option ℕ → List ℕ
+taken_by script text None = text
+taken_by script text (Some s) = taken_for script.named s text (asked_of script.known text)
 
--- whether the command was answered by a success, which is sent last
-abbrev pub succeeded : List Sent → Bool
-succeeded sent = ends_in (codes ",\"type\":\"success\"}") (last_text sent)
-
--- The command was answered by a success, which is sent last, and gives the id of this subscription of a session.
-abbrev pub Gives : ℕ → List Sent → ℕ → Type 0
-Gives s sent n = (front : List ℕ) × (last_text sent ≡ Some (front ++ (id_text Subscription s n ++ codes "\"},\"type\":\"success\"}")))
+-- the text that the machine takes for a message on a connection while names are known
+abbrev pub text_taken : List Deed → Script → ℕ → List ℕ → List ℕ
+text_taken past script c text = taken_by script text (session_in (attachment_of past c))
 
 -- ---- what a command names
-
--- These are the numbers below 2^48 whose ids are among these.
-abbrev pub AreNumbers : (ℕ → List ℕ) → List (List ℕ) → List ℕ → Type 0
-AreNumbers id_of_number ids ns = (n : ℕ) → n < 2 ^ 48 → is_listed ns n ≡ list_any (λ id. bytes_eq id (id_of_number n)) ids
 
 -- the number of the top-level context above the live context of this id
 abbrev pub top_number : List Deed → List ℕ → Option ℕ
@@ -62,31 +56,6 @@ IsScope past None (Some ids) scope = (ns : List ℕ) × AreNumbers user_id ids n
 IsScope past None None scope = scope ≡ All
 
 -- ---- what becomes of the subscriptions
-
--- without these names, if it is of this session and for all contexts
-abbrev pub stripped : ℕ → List (List ℕ) → Named → Named
-stripped s names n =
-    if (n.session == s) && is_global n.scope then record n { names = filter (λ name. not (list_any (bytes_eq name) names)) n.names } else n
-
--- a session is no longer subscribed to these names for all contexts; subscriptions with no name left are gone
-abbrev pub dismissed : ℕ → List (List ℕ) → List Named → List Named
-dismissed s names held = filter (λ n. not (length n.names == 0)) (map (stripped s names) held)
-
--- the subscriptions of these numbers of a session are gone
-abbrev pub cancelled : ℕ → List ℕ → List Named → List Named
-cancelled s numbers held = filter (λ n. not ((n.session == s) && is_listed numbers n.number)) held
-
--- those of sessions that are still active
-abbrev pub of_active : List ℕ → List Named → List Named
-of_active active held = filter (λ n. is_listed active n.session) held
-
--- how many names a subscription has, if it is of this session
-abbrev pub names_in : ℕ → Named → ℕ
-names_in s n = if n.session == s then length n.names else 0
-
--- whether the subscriptions of a session would have too many names with so many more
-abbrev pub is_too_many : ℕ → List Named → ℕ → Bool
-is_too_many s held more = nat_lt most_names (total (map (names_in s) held) + more)
 
 -- whether what a session asks is refused: it would subscribe to too many names
 abbrev pub is_refused : ℕ → List Named → Option Asked → Bool

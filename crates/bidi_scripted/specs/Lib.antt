@@ -1,9 +1,6 @@
-pub mod Names
 pub mod Slots
 pub mod Methods
-pub mod Subscriptions
 pub mod Script
-pub mod Asked
 pub mod Kept
 pub mod Fate
 pub mod Sending

@@ -2,13 +2,9 @@
 use Rattle.std.specs.Prelude.{ℕ, suc, ◌+◌, ◌-◌, ◌==◌, nat_lt, nat_le, Bool, true, false, not, ◌&&◌, if◌then◌else◌, List, [], ◌∷◌, ◌++◌, length, map, filter, find, bytes_eq, Option, Some, None}
 use Rattle.bidi_rows.specs.Command.{Command}
 use Rattle.bidi_rows.specs.Filling.{Template}
-use Rattle.bidi_scripted.specs.Subscriptions.{Named}
+use Rattle.bidi_names.specs.Sums.{total}
+use Rattle.bidi_names.specs.Subscriptions.{Named}
 use Rattle.bidi_rows.specs.Rows.{Row, matches}
-
--- the sum of some numbers
-abbrev pub total : List ℕ → ℕ
-total [] = 0
-total (n ∷ ns) = n + total ns
 
 -- A command that is held: the number that it got, its connection, its id and its text, and whether that connection is gone although one of
 -- its number was opened anew.
@@ -60,10 +56,6 @@ most_numbers = 1000000000
 -- how many names can be known
 abbrev pub most_known : ℕ
 most_known = 1024
-
--- how many names the subscriptions of a session can have
-abbrev pub most_names : ℕ
-most_names = 1024
 
 -- how many bytes all rows and held commands can have
 abbrev pub most_kept : ℕ

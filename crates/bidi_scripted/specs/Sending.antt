@@ -14,7 +14,7 @@ use Rattle.bidi_remote.specs.Machine.Sent.{Sent, Text, Lost}
 use Rattle.json.specs.Json.{Json, document}
 use Rattle.bidi_rows.specs.Filling.{filling_of, filled_text}
 use Rattle.bidi_rows.specs.Reading.{string_at, object_at}
-use Rattle.bidi_scripted.specs.Subscriptions.{Named, holds_name}
+use Rattle.bidi_names.specs.Subscriptions.{Named, holds_name}
 use Rattle.bidi_scripted.specs.Script.{Held, Follower}
 
 -- the event of the profile that has this name, if there is one

@@ -15,12 +15,11 @@ ghost use Rattle.bidi_remote.specs.Machine.Sent.{out, Lost};
 ghost use Rattle.bidi_remote.specs.State.Stands.{StandsFor};
 ghost use Rattle.bidi_scripted.specs.Script as script;
 ghost use Rattle.bidi_scripted.specs.Script.{most_rows, can_keep, has_room_for_row, has_room_for_follower, has_room_for_names, with_row, with_follower, with_names, without_method, without_held, held_by};
-ghost use Rattle.bidi_scripted.specs.Names.{is_known, words, can_be_known};
+ghost use Rattle.bidi_names.specs.Names.{is_known, words, can_be_known};
 ghost use Rattle.bidi_scripted.specs.Faults.{RefusesRow, RefusesFollower, RefusesNames, RefusesEvent, RefusesRelease, RefusesAnswer};
 ghost use Rattle.bidi_remote.specs.Machine.Connections.{attachment_of};
 ghost use Rattle.bidi_remote.specs.Machine.Asking.{session_in};
-ghost use Rattle.bidi_scripted.specs.Asked.{text_taken};
-ghost use Rattle.bidi_scripted.specs.Kept.{IsKept};
+ghost use Rattle.bidi_scripted.specs.Kept.{text_taken, IsKept};
 ghost use Rattle.bidi_scripted.specs.Becomes.{IsPartTaken};
 ghost use Rattle.bidi_scripted.specs.Sending.{emitted, release_sent, followed_by};
 ghost use Rattle.bidi_scripted.specs.View.{script_of, held_of};
@@ -29,14 +28,14 @@ ghost use Rattle.bidi_scripted.specs.declared.fault.ScriptFault.TheVariants.{Not
 use crate::emitting::{answer_sent, push_event};
 use crate::fault::ScriptFault;
 use crate::following::followers_of;
-use crate::names::{is_known, names_in};
 use crate::script::{Follower, HeldCommand};
 use crate::scripted_end::{ScriptedEnd, Taken, only};
+use bidi_names::{is_known, names_of_line};
 use bidi_remote::{RemoteFault, Sent};
 use bidi_rows::{Answer, Row, read_answer, read_event, read_hold, read_row, read_templates};
 use bidi_tree::JsUint;
 use json::Scratch;
-use std::alloc::AllocError;
+use std::alloc::{AllocError, Global};
 
 impl ScriptedEnd {
     /// Adds a row that answers commands: from now on it is the newest row.
@@ -376,7 +375,7 @@ impl ScriptedEnd {
         // `WornOut` never comes.
         ensures worn_out { IsErrOf result ScriptFault.WornOut → ⊥ }
     {
-        let names = names_in(self.alloc, names)?;
+        let names = read_names(self.alloc, names)?;
         if !self.script.has_room_for_names(names.len()) {
             return Err(ScriptFault::TooManyNames);
         }
@@ -389,5 +388,17 @@ impl ScriptedEnd {
         ensures { result ≡ is_known (script_of self.now.script).known name.now }
     {
         is_known(&self.script.known, name)
+    }
+}
+
+// The names of a line.
+fn read_names(alloc: Global, text: &str) -> Result<Vec<String>, ScriptFault>
+    ensures ok { IfOk result (λ names. map string_bytes names.items ≡ words text.now) }
+    ensures named { OnOk result (list_all can_be_known (words text.now) ≡ true) }
+    ensures refused { (s : script.Script) → IfErr result (RefusesNames text.now s) }
+{
+    match names_of_line(alloc, text)? {
+        Some(names) => Ok(names),
+        None => Err(ScriptFault::BadName),
     }
 }

@@ -8,11 +8,11 @@ ghost use Rattle.bidi_remote.specs.Machine.Connections.{connections_of};
 ghost use Rattle.bidi_remote.specs.Machine.Outcome.{deeds};
 ghost use Rattle.bidi_remote.specs.Machine.Sent.{Text};
 ghost use Rattle.bidi_remote.specs.State.Stands.{StandsFor};
-ghost use Rattle.bidi_scripted.specs.Subscriptions.{named_of};
+ghost use Rattle.bidi_names.specs.Subscriptions.{named_of};
 ghost use Rattle.bidi_scripted.specs.Sending.{top_of_event, event_named, reaches, emitted, all_emitted, answer_sent};
 
-use crate::subscriptions::{NamedSubscription, holds_name};
 use bidi_messages::EventName;
+use bidi_names::{NamedSubscription, holds_name};
 use bidi_remote::{RemoteEnd, RemoteFault, Sent, SentText, Top};
 use bidi_rows::{Answer, Event, reply_text};
 use bidi_shape::Named;

@@ -17,20 +17,16 @@
 //! a command that cannot be held.
 #![tactic(auto)]
 
-mod asking;
 mod calls;
 mod emitting;
 mod fault;
 mod finding;
 mod following;
 mod method_set;
-mod names;
 mod naming;
-mod replies;
 mod row_table;
 mod script;
 mod scripted_end;
-mod subscriptions;
 
 pub use fault::ScriptFault;
 pub use script::HeldCommand;

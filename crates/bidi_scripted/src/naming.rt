@@ -12,15 +12,19 @@ ghost use Rattle.bidi_remote.specs.Machine.Connections.{attachment_of};
 ghost use Rattle.bidi_remote.specs.Machine.Sessions.{sessions};
 ghost use Rattle.bidi_remote.specs.Machine.Asking.{session_in};
 ghost use Rattle.bidi_sessions.specs.SubscriptionView.{scope_of};
-ghost use Rattle.bidi_scripted.specs.Kept.{AreNumbers, IsScope, KeptFor, IsKept, top_number, is_too_many};
-ghost use Rattle.bidi_scripted.specs.Asked.{Wanted, Subscribes, Unsubscribes, Ends, asked_of, holds_globally, part_or, taken_for, text_taken};
+ghost use Rattle.bidi_names.specs.Replies.{AreNumbers};
+ghost use Rattle.bidi_scripted.specs.Kept.{IsScope, KeptFor, IsKept, top_number, part_or, taken_for, text_taken};
+ghost use Rattle.bidi_names.specs.Subscriptions.{is_too_many, holds_globally};
+ghost use Rattle.bidi_names.specs.Asked.{Wanted, Subscribes, Unsubscribes, Ends, asked_of};
 ghost use Rattle.bidi_scripted.specs.Becomes.{IsHandedOn, TakesPart};
-ghost use Rattle.bidi_scripted.specs.View.{script_of, texts_of, ids_seen, wanted_of, asked_seen};
+ghost use Rattle.bidi_scripted.specs.View.{script_of};
+ghost use Rattle.bidi_names.specs.View.{texts_of, ids_seen, wanted_of, asked_seen};
 
-use crate::asking::{NamesAsked, NamesWanted, names_asked};
-use crate::replies::{is_success, number_made, push_found, subscription_numbers, user_numbers};
 use crate::scripted_end::{ScriptedEnd, Taken};
-use crate::subscriptions::{NamedSubscription, are_global, has_room_for};
+use bidi_names::{
+    NamedSubscription, NamesAsked, NamesWanted, are_global, has_room_for, is_success, names_asked,
+    number_made, push_found, subscription_numbers, user_numbers,
+};
 use bidi_remote::{RemoteFault, Top};
 use bidi_sessions::Scope;
 use bidi_tree::JsUint;

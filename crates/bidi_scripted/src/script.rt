@@ -4,13 +4,13 @@ ghost use Rattle.std.specs.List.{position};
 ghost use Rattle.bidi_rows.specs.Command.{Command};
 ghost use Rattle.bidi_rows.specs.Rows.{matches};
 ghost use Rattle.bidi_rows.specs.View.{row_of};
-ghost use Rattle.bidi_scripted.specs.Script.{no_script, is_plain, most_rows, most_numbers, can_keep, has_room_for_command, has_room_for_names, total, used, with_row, with_use, without_method, with_held, without_held, with_opening, with_follower, with_names, lost_on, held_by};
-ghost use Rattle.bidi_scripted.specs.Subscriptions.{named_of};
-ghost use Rattle.bidi_scripted.specs.Kept.{dismissed, cancelled, of_active};
+ghost use Rattle.bidi_scripted.specs.Script.{no_script, is_plain, most_rows, most_numbers, can_keep, has_room_for_command, has_room_for_names, used, with_row, with_use, without_method, with_held, without_held, with_opening, with_follower, with_names, lost_on, held_by};
+ghost use Rattle.bidi_names.specs.Sums.{total};
+ghost use Rattle.bidi_names.specs.Subscriptions.{named_of, dismissed, cancelled, of_active};
 ghost use Rattle.bidi_scripted.specs.View.{held_of, follower_of, script_of};
 
 use crate::row_table::RowTable;
-use crate::subscriptions::{NamedSubscription, cancel, dismiss, keep_active};
+use bidi_names::{NamedSubscription, cancel, dismiss, keep_active};
 use bidi_rows::{Row, Template};
 use bidi_tree::JsUint;
 use std::alloc::{AllocError, Global};
@@ -280,7 +280,7 @@ impl Script {
 }
 
 // The bytes that these rows leave of so many; `None` if they have more.
-#[tactic(auto, using(crate::proofs::TotalLemmas::total_next))]
+#[tactic(auto, using(crate::proofs::RoomLemmas::total_next))]
 fn left_by_rows(rows: &[Row], bytes: usize) -> Option<usize>
     ensures { MatchOption result (bytes < total (map (λ r. (row_of r).bytes) rows.now)) (λ left. left + total (map (λ r. (row_of r).bytes) rows.now) ≡ bytes) }
 {
@@ -292,7 +292,7 @@ fn left_by_rows(rows: &[Row], bytes: usize) -> Option<usize>
 }
 
 // The bytes that the texts of these commands leave of so many; `None` if they have more.
-#[tactic(auto, using(crate::proofs::TotalLemmas::total_next))]
+#[tactic(auto, using(crate::proofs::RoomLemmas::total_next))]
 fn left_by_held(held: &[HeldCommand], bytes: usize) -> Option<usize>
     ensures { MatchOption result (bytes < total (map (λ h. length (held_of h).text) held.now))
         (λ left. left + total (map (λ h. length (held_of h).text) held.now) ≡ bytes) }
@@ -305,7 +305,7 @@ fn left_by_held(held: &[HeldCommand], bytes: usize) -> Option<usize>
 }
 
 // The bytes that these followers leave of so many; `None` if they have more.
-#[tactic(auto, using(crate::proofs::TotalLemmas::total_next))]
+#[tactic(auto, using(crate::proofs::RoomLemmas::total_next))]
 fn left_by_followers(followers: &[Follower], bytes: usize) -> Option<usize>
     ensures { MatchOption result (bytes < total (map (λ f. (follower_of f).bytes) followers.now))
         (λ left. left + total (map (λ f. (follower_of f).bytes) followers.now) ≡ bytes) }

@@ -18,8 +18,7 @@ ghost use Rattle.bidi_scripted.specs.Script.{no_script, is_plain, with_use, with
 ghost use Rattle.bidi_scripted.specs.Fate.{fate, by_row, by_action, HandedOn, Answered, Held, Unheld, AsksNames, after_step};
 ghost use Rattle.bidi_remote.specs.Machine.Connections.{is_open, attachment_of};
 ghost use Rattle.bidi_remote.specs.Machine.Asking.{session_in};
-ghost use Rattle.bidi_scripted.specs.Asked.{text_taken};
-ghost use Rattle.bidi_scripted.specs.Kept.{IsKept};
+ghost use Rattle.bidi_scripted.specs.Kept.{text_taken, IsKept};
 ghost use Rattle.bidi_scripted.specs.Becomes.{Becomes, IsFound, IsHandedOn, IsTaken, TakesPart, sent_by};
 ghost use Rattle.bidi_scripted.specs.Sending.{answer_sent};
 ghost use Rattle.bidi_scripted.specs.View.{script_of};

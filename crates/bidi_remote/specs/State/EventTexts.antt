@@ -4,7 +4,7 @@ use Rattle.std.specs.List.{AllByRecursion}
 use Rattle.bidi_messages.specs.contracts.message.MessageShape.TheImpl.{ghosts}
 use Rattle.bidi_messages.specs.Reading.{IsMessageText}
 use Rattle.bidi_contexts.specs.Occurrences.{Occurrence}
-use Rattle.bidi_missed.specs.Written.{Written}
+use Rattle.bidi_active.specs.Written.{Written}
 use Rattle.bidi_remote.specs.Machine.Sent.{occurrence_text}
 
 -- the message of an event that occurred

@@ -4,7 +4,7 @@ use Rattle.bidi_methods.specs.declared.event_data.EventName.{EventName}
 use Rattle.bidi_contexts.specs.declared.occurrence.Top.{Top}
 use Rattle.bidi_contexts.specs.Occurrences.{Occurrence}
 use Rattle.bidi_sessions.specs.SubscriptionRows.{any_covers, any_global}
-use Rattle.bidi_remote.specs.State.SessionRows.{SessionRow}
+use Rattle.bidi_active.specs.SessionRows.{SessionRow}
 
 -- whether the session of a row hears the event there
 abbrev pub heard_by : SessionRow → EventName → Option Top → Bool

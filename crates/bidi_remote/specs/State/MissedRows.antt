@@ -6,7 +6,7 @@ use Rattle.bidi_messages.specs.Reading.{IsMessageText}
 use Rattle.bidi_remote.specs.Machine.History.{Deed}
 use Rattle.bidi_remote.specs.Machine.LogBuffer.{Missed, missed, last_hundred}
 use Rattle.bidi_remote.specs.Machine.Sent.{occurrence_text}
-use Rattle.bidi_missed.specs.Written.{Written}
+use Rattle.bidi_active.specs.Written.{Written}
 use Rattle.bidi_remote.specs.State.EventTexts.{written}
 
 -- the place of a missed entry, which is empty once the entry was announced

@@ -4,7 +4,7 @@ use Rattle.bidi_contexts.specs.Occurrences.{Occurrence}
 use Rattle.bidi_remote.specs.Machine.Sent.{Sent, Text, occurrence_text}
 use Rattle.bidi_sessions.specs.ConnectionRows as connections
 use Rattle.bidi_sessions.specs.ConnectionRows.{to_each}
-use Rattle.bidi_remote.specs.State.SessionRows.{SessionRow}
+use Rattle.bidi_active.specs.SessionRows.{SessionRow}
 use Rattle.bidi_sessions.specs.SubscriptionRows.{any_covers}
 
 -- a string, once for each connection of a session

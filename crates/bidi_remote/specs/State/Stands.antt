@@ -14,7 +14,7 @@ use Rattle.bidi_sessions.specs.ConnectionRows as connections
 use Rattle.bidi_remote.specs.State.ConnectionRows.{rows}
 use Rattle.bidi_remote.specs.State.SessionRows.{session_rows}
 use Rattle.bidi_remote.specs.State.MissedRows.{IsEntry}
-use Rattle.bidi_remote.specs.State.SessionView as sessions
+use Rattle.bidi_active.specs.SessionView as sessions
 use Rattle.bidi_sessions.specs.Limits.{most_steps}
 
 -- The tables of the state have what the past leads to.

@@ -27,11 +27,11 @@ use Rattle.bidi_remote.specs.Machine.Connections.{connections_of}
 use Rattle.bidi_remote.specs.Machine.Sent.{Sent, Text, Close, to_hearers, announcements, items, action_in, closed}
 use Rattle.bidi_sessions.specs.ConnectionRows as connections
 use Rattle.bidi_sessions.specs.ConnectionRows.{to_each}
-use Rattle.bidi_missed.specs.Written.{Written, written_in}
+use Rattle.bidi_active.specs.Written.{Written, written_in}
 use Rattle.bidi_remote.specs.State.EventTexts.{written, AreMessages}
 use Rattle.bidi_remote.specs.State.Routes.{to_one}
-use Rattle.bidi_missed.specs.Places.{places_in}
-use Rattle.bidi_remote.specs.State.SessionView.{HasRoomForOne, HasRoomIn}
+use Rattle.bidi_active.specs.Places.{places_in}
+use Rattle.bidi_active.specs.SessionView.{HasRoomForOne, HasRoomIn}
 use Rattle.bidi_sessions.specs.SubscriptionView.{scope_of}
 
 -- ---- what a change does

@@ -10,9 +10,9 @@ ghost use Rattle.bidi_remote.specs.State.Turns.{Decides, HasResultOf, IsWellDeci
 
 use crate::state::State;
 use crate::turn::{Asker, Change, Turn};
+use bidi_active::LogBuffer;
 use bidi_browser::Refusal;
 use bidi_messages::{ErrorCode, Method};
-use bidi_missed::LogBuffer;
 use bidi_params::session::NewParameters;
 use bidi_sessions::{match_capabilities, new_result};
 use bidi_shape::Shape;

@@ -1,5 +1,5 @@
 use Rattle.std.proofs.Common.{◌≡◌, map, take}
-use Rattle.bidi_remote.specs.State.SessionView.{session_row_of}
+use Rattle.bidi_active.specs.SessionView.{session_row_of}
 use Rattle.bidi_remote.proofs.asking.numbers_of.Given as goal
 
 abbrev pub invariant-loop-session : goal.invariant-loop-session

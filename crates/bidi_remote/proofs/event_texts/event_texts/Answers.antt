@@ -6,7 +6,7 @@ use Rattle.bidi_messages.specs.contracts.message.MessageShape.TheImpl as message
 use Rattle.bidi_messages.specs.Reading.{IsMessageText}
 use Rattle.bidi_contexts.specs.View.{seen}
 use Rattle.bidi_remote.specs.State.EventTexts.{written, AreMessages}
-use Rattle.bidi_missed.specs.Written.{written_of, written_in}
+use Rattle.bidi_active.specs.Written.{written_of, written_in}
 use Rattle.bidi_sessions.proofs.ListLemmas.{all-append, from-item}
 use Rattle.bidi_remote.proofs.event_texts.event_texts.Goals as goal
 

@@ -3,7 +3,7 @@ use Rattle.std.specs.List.{AllByRecursion}
 use Rattle.bidi_methods.specs.contracts.event_data.EventDataPayloadEventName.TheImpl.{ghosts}
 use Rattle.bidi_contexts.specs.View.{seen}
 use Rattle.bidi_remote.specs.State.EventTexts.{written, AreMessages}
-use Rattle.bidi_missed.specs.Written.{written_in}
+use Rattle.bidi_active.specs.Written.{written_in}
 use Rattle.bidi_remote.proofs.event_texts.event_texts.Given as goal
 
 -- those that were looked at are written, and the others are well

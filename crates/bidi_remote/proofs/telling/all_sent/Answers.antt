@@ -1,10 +1,10 @@
 use Rattle.std.proofs.Common.{◌∙◌, ◌++◌, map, flat_map, sym, ap, subst}
 use Rattle.bidi_contexts.specs.Acts.{Looked}
 use Rattle.bidi_sessions.specs.ConnectionRows.{rows_in}
-use Rattle.bidi_missed.specs.Written.{written_in}
+use Rattle.bidi_active.specs.Written.{written_in}
 use Rattle.bidi_remote.specs.Machine.Messages.{AllReadBack}
 use Rattle.bidi_remote.specs.State.Routes.{to_all}
-use Rattle.bidi_remote.specs.State.SessionView as sessions
+use Rattle.bidi_active.specs.SessionView as sessions
 use Rattle.bidi_contexts.specs.View.{seen}
 use Rattle.bidi_remote.specs.State.Turns.{deed_of, to_subscriber_in, closed_in}
 use Rattle.bidi_sessions.specs.View.{sent_of, sent_if}

@@ -7,7 +7,7 @@ use Rattle.bidi_messages.specs.Message.{event_text}
 use Rattle.bidi_messages.specs.Reading.{IsMessageText}
 use Rattle.bidi_sessions.specs.ConnectionRows.{rows_in}
 use Rattle.bidi_sessions.specs.SubscriptionRows.{any_covers}
-use Rattle.bidi_remote.specs.State.SessionView.{session_row_of}
+use Rattle.bidi_active.specs.SessionView.{session_row_of}
 use Rattle.bidi_sessions.specs.View.{sent_of}
 use Rattle.bidi_remote.proofs.TellLemmas.{heard, heard-none, heard-read, if-more-read}
 use Rattle.bidi_remote.proofs.telling.push_event.Goals as goal

@@ -5,7 +5,7 @@ use Rattle.bidi_methods.specs.contracts.event_data.EventDataPayloadEventName.The
 use Rattle.bidi_sessions.specs.ConnectionRows.{rows_in}
 use Rattle.bidi_remote.specs.Machine.Messages.{AllReadBack}
 use Rattle.bidi_remote.specs.State.Routes.{to_all}
-use Rattle.bidi_remote.specs.State.SessionView as sessions
+use Rattle.bidi_active.specs.SessionView as sessions
 use Rattle.bidi_contexts.specs.View.{seen}
 use Rattle.bidi_sessions.specs.View.{sent_of}
 use Rattle.bidi_remote.proofs.telling.push_events.Given as goal

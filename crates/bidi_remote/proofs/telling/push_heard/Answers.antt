@@ -4,7 +4,7 @@ use Rattle.std.proofs.lemmas.List.{drop_all}
 use Rattle.bidi_remote.specs.Machine.Sent.{Text}
 use Rattle.bidi_sessions.specs.ConnectionRows.{rows_in, to_each}
 use Rattle.bidi_sessions.specs.SubscriptionRows.{any_covers}
-use Rattle.bidi_remote.specs.State.SessionView.{session_row_of}
+use Rattle.bidi_active.specs.SessionView.{session_row_of}
 use Rattle.bidi_sessions.specs.View.{sent_of}
 use Rattle.bidi_sessions.proofs.ListLemmas.{from-item}
 use Rattle.bidi_remote.proofs.TellLemmas.{heard-next, heard-other}

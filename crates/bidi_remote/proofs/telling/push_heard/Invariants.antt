@@ -3,7 +3,7 @@ use Rattle.std.specs.Prelude.{flat_map, filter, string_bytes}
 use Rattle.bidi_remote.specs.Machine.Sent.{Text}
 use Rattle.bidi_sessions.specs.ConnectionRows.{rows_in, to_each}
 use Rattle.bidi_sessions.specs.SubscriptionRows.{any_covers}
-use Rattle.bidi_remote.specs.State.SessionView.{session_row_of}
+use Rattle.bidi_active.specs.SessionView.{session_row_of}
 use Rattle.bidi_sessions.specs.View.{sent_of}
 use Rattle.bidi_remote.proofs.telling.push_heard.Given as goal
 

@@ -2,7 +2,7 @@ use Rattle.std.proofs.Common.{◌∙◌, ◌++◌, ◌+◌, append_assoc, append
 use Rattle.std.specs.Prelude.{flat_map, string_bytes}
 use Rattle.std.proofs.lemmas.List.{drop_all}
 use Rattle.bidi_sessions.specs.ConnectionRows.{rows_in}
-use Rattle.bidi_missed.specs.Written.{written_in}
+use Rattle.bidi_active.specs.Written.{written_in}
 use Rattle.bidi_remote.specs.State.Routes.{to_one}
 use Rattle.bidi_sessions.specs.View.{sent_of}
 use Rattle.bidi_sessions.proofs.ListLemmas.{from-item}

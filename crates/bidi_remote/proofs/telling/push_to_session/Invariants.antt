@@ -1,7 +1,7 @@
 use Rattle.std.proofs.Common.{◌≡◌, ◌++◌, map, drop}
 use Rattle.std.specs.Prelude.{flat_map}
 use Rattle.bidi_sessions.specs.ConnectionRows.{rows_in}
-use Rattle.bidi_missed.specs.Written.{written_in}
+use Rattle.bidi_active.specs.Written.{written_in}
 use Rattle.bidi_remote.specs.State.Routes.{to_one}
 use Rattle.bidi_sessions.specs.View.{sent_of}
 use Rattle.bidi_remote.proofs.telling.push_to_session.Given as goal

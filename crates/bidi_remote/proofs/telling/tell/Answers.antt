@@ -1,9 +1,9 @@
 use Rattle.std.proofs.Common.{◌≡◌, ◌∙◌, map, sym, ap, ap₂, subst}
 use Rattle.std.specs.Prelude.{IfOk}
 use Rattle.bidi_sessions.specs.ConnectionRows.{rows_in}
-use Rattle.bidi_missed.specs.Written.{written_in}
+use Rattle.bidi_active.specs.Written.{written_in}
 use Rattle.bidi_remote.specs.State.EventTexts.{AreMessages}
-use Rattle.bidi_remote.specs.State.SessionView as sessions
+use Rattle.bidi_active.specs.SessionView as sessions
 use Rattle.bidi_contexts.specs.View.{seen}
 use Rattle.bidi_remote.specs.State.Turns.{deed_of, reply_in, asker_in}
 use Rattle.bidi_sessions.specs.View.{sent_of, sent_if}

@@ -7,7 +7,7 @@ use Rattle.bidi_remote.specs.Machine.Sent.{occurrence_text}
 use Rattle.bidi_remote.specs.State.ConnectionRows.{rows}
 use Rattle.bidi_sessions.specs.ConnectionRows.{rows_in}
 use Rattle.bidi_remote.specs.Machine.Messages.{AllReadBack}
-use Rattle.bidi_remote.specs.State.SessionView.{session_row_of}
+use Rattle.bidi_active.specs.SessionView.{session_row_of}
 use Rattle.bidi_remote.specs.State.SessionRows.{session_rows}
 use Rattle.bidi_sessions.specs.View.{sent_of}
 use Rattle.bidi_remote.proofs.TellLemmas.{heard, heard-read, more-read, to_all-past}

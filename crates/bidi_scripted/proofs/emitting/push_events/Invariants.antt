@@ -4,7 +4,7 @@ use Rattle.bidi_remote.specs.Machine.History.{Input}
 use Rattle.bidi_remote.specs.Machine.Outcome.{deeds}
 use Rattle.bidi_remote.specs.State.Stands.{StandsFor}
 use Rattle.bidi_sessions.specs.View.{sent_of}
-use Rattle.bidi_scripted.specs.Subscriptions.{named_of}
+use Rattle.bidi_names.specs.Subscriptions.{named_of}
 use Rattle.bidi_scripted.specs.Sending.{all_emitted}
 use Rattle.bidi_scripted.proofs.emitting.push_events.Given as goal
 

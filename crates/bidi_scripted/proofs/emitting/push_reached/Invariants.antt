@@ -7,7 +7,7 @@ use Rattle.bidi_remote.specs.Machine.Outcome.{deeds}
 use Rattle.bidi_remote.specs.Machine.Sent.{Text}
 use Rattle.bidi_remote.specs.State.Stands.{StandsFor}
 use Rattle.bidi_sessions.specs.View.{sent_of}
-use Rattle.bidi_scripted.specs.Subscriptions.{named_of}
+use Rattle.bidi_names.specs.Subscriptions.{named_of}
 use Rattle.bidi_scripted.specs.Sending.{event_named, reaches}
 use Rattle.bidi_scripted.proofs.emitting.push_reached.Given as goal
 

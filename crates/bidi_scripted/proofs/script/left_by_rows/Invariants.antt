@@ -1,6 +1,6 @@
 use Rattle.std.proofs.Common.{◌≡◌, ◌+◌, map, drop}
 use Rattle.bidi_rows.specs.View.{row_of}
-use Rattle.bidi_scripted.specs.Script.{total}
+use Rattle.bidi_names.specs.Sums.{total}
 use Rattle.bidi_scripted.proofs.script.left_by_rows.Given as goal
 
 -- what is left, with what all have, is what there was with what the rest has

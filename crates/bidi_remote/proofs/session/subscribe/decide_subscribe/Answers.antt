@@ -12,12 +12,12 @@ use Rattle.bidi_remote.specs.Machine.Sent.{announcements, subscription_tree}
 use Rattle.bidi_remote.specs.State.Asked.{texts, subscribe_asked}
 use Rattle.bidi_sessions.specs.SubscriptionView.{scope_of}
 use Rattle.bidi_remote.specs.State.EventTexts.{written, AreMessages}
-use Rattle.bidi_missed.specs.Written.{written_in}
+use Rattle.bidi_active.specs.Written.{written_in}
 use Rattle.bidi_remote.proofs.DecideLemmas.{announced-decides, found-active, held-length, subscribe-checked}
-use Rattle.bidi_remote.specs.declared.sessions.Session.{Session}
+use Rattle.bidi_active.specs.declared.sessions.Session.{Session}
 use Rattle.bidi_remote.specs.declared.state.State.{State}
 use Rattle.bidi_remote.specs.State.SessionRows.{session_row}
-use Rattle.bidi_remote.specs.State.SessionView.{rows_in, session_row_of}
+use Rattle.bidi_active.specs.SessionView.{rows_in, session_row_of}
 use Rattle.bidi_remote.specs.State.Stands.{AgreeWith}
 use Rattle.bidi_sessions.proofs.ListLemmas.{no_value, not-found, some-same}
 use Rattle.bidi_remote.proofs.session.subscribe.decide_subscribe.Goals as goal

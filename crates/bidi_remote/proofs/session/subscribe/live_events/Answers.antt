@@ -5,12 +5,12 @@ use Rattle.std.proofs.lemmas.Fn.{filter_same}
 use Rattle.bidi_methods.specs.contracts.event_data.EventDataPayloadEventName.TheImpl.{ghosts}
 use Rattle.bidi_contexts.specs.View.{occurrence_of, seen}
 use Rattle.bidi_remote.specs.State.EventTexts.{written}
-use Rattle.bidi_missed.specs.Written.{written_in}
-use Rattle.bidi_missed.specs.News.{is_new}
+use Rattle.bidi_active.specs.Written.{written_in}
+use Rattle.bidi_active.specs.News.{is_new}
 use Rattle.bidi_sessions.specs.SubscriptionView.{scope_of}
 use Rattle.bidi_sessions.specs.SubscriptionsView.{rows_of}
 use Rattle.bidi_sessions.proofs.ListLemmas.{map-filter}
-use Rattle.bidi_missed.proofs.AnnounceLemmas.{nothing-told}
+use Rattle.bidi_active.proofs.AnnounceLemmas.{nothing-told}
 use Rattle.bidi_remote.proofs.DecideLemmas.{all-kept}
 use Rattle.bidi_remote.proofs.session.subscribe.live_events.Goals as goal
 

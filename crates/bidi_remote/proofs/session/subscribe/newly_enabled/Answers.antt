@@ -5,13 +5,13 @@ use Rattle.bidi_messages.specs.contracts.message.MessageShape.TheImpl.{ghosts}
 use Rattle.bidi_methods.specs.declared.event_data.EventName.TheVariants.{EntryAdded}
 use Rattle.bidi_messages.specs.Reading.{IsMessageText}
 use Rattle.bidi_remote.specs.Machine.History.{acts}
-use Rattle.bidi_missed.specs.Written.{written_of, written_in}
+use Rattle.bidi_active.specs.Written.{written_of, written_in}
 use Rattle.bidi_remote.specs.State.EventTexts.{AreMessages}
-use Rattle.bidi_missed.specs.Places.{waiting}
+use Rattle.bidi_active.specs.Places.{waiting}
 use Rattle.bidi_remote.specs.State.MissedRows.{places}
-use Rattle.bidi_missed.specs.News.{is_new}
+use Rattle.bidi_active.specs.News.{is_new}
 use Rattle.bidi_sessions.specs.SubscriptionView.{scope_of}
-use Rattle.bidi_remote.specs.State.SessionView.{session_row_of}
+use Rattle.bidi_active.specs.SessionView.{session_row_of}
 use Rattle.bidi_sessions.proofs.ListLemmas.{all-append}
 use Rattle.bidi_remote.proofs.PlaceLemmas.{all-filtered, waiting-messages, waiting-places}
 use Rattle.bidi_remote.proofs.DecideLemmas.{new-announced}

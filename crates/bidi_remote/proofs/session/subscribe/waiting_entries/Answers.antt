@@ -2,12 +2,12 @@ use Rattle.std.proofs.Common.{◌∙◌, sym, ap, rules}
 use Rattle.std.specs.Prelude.{filter}
 use Rattle.std.proofs.lemmas.Fn.{filter_same}
 use Rattle.bidi_methods.specs.declared.event_data.EventName.TheVariants.{EntryAdded}
-use Rattle.bidi_missed.specs.Written.{Written, written_of, written_in}
-use Rattle.bidi_missed.specs.Places.{waiting}
-use Rattle.bidi_missed.specs.News.{is_new}
-use Rattle.bidi_remote.specs.State.SessionView.{session_row_of}
+use Rattle.bidi_active.specs.Written.{Written, written_of, written_in}
+use Rattle.bidi_active.specs.Places.{waiting}
+use Rattle.bidi_active.specs.News.{is_new}
+use Rattle.bidi_active.specs.SessionView.{session_row_of}
 use Rattle.bidi_sessions.specs.SubscriptionView.{scope_of}
-use Rattle.bidi_missed.proofs.AnnounceLemmas.{never-new}
+use Rattle.bidi_active.proofs.AnnounceLemmas.{never-new}
 use Rattle.bidi_sessions.proofs.ListLemmas.{map-filter, filter-none}
 use Rattle.bidi_remote.proofs.session.subscribe.waiting_entries.Goals as goal
 

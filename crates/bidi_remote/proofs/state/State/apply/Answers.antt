@@ -4,8 +4,8 @@ use Rattle.bidi_remote.specs.Machine.History.{acts}
 use Rattle.bidi_remote.specs.Machine.Connections.{is_shut}
 use Rattle.bidi_remote.specs.Machine.Outcome.{deeds}
 use Rattle.bidi_remote.specs.Machine.Sessions.{next_session}
-use Rattle.bidi_remote.specs.State.SessionView as in_hand
-use Rattle.bidi_remote.specs.State.SessionRows.{cancelled, lost, changed}
+use Rattle.bidi_active.specs.SessionView as in_hand
+use Rattle.bidi_active.specs.SessionRows.{cancelled, lost, changed}
 use Rattle.bidi_sessions.specs.SubscriptionView.{scope_of}
 use Rattle.bidi_remote.specs.State.Stands.{AgreeWith}
 use Rattle.bidi_remote.specs.State.Turns.{IsMade, deed_of}

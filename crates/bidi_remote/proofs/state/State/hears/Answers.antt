@@ -1,7 +1,7 @@
 use Rattle.std.proofs.Common.{◌∙◌, refl}
 use Rattle.std.specs.Prelude.{Some, None}
 use Rattle.bidi_remote.specs.Machine.Outcome.{deeds}
-use Rattle.bidi_remote.specs.State.SessionView.{session_row_of, rows_in}
+use Rattle.bidi_active.specs.SessionView.{session_row_of, rows_in}
 use Rattle.bidi_remote.proofs.AskingLemmas.{row-hears}
 use Rattle.bidi_remote.proofs.state.State.hears.Goals as goal
 

@@ -4,7 +4,7 @@ use Rattle.bidi_remote.specs.Machine.Connections.{is_shut, attachment_of}
 use Rattle.bidi_remote.specs.Machine.History as history
 use Rattle.bidi_remote.specs.Machine.Outcome.{deeds}
 use Rattle.bidi_remote.specs.State.ConnectionRows.{opening_by}
-use Rattle.bidi_remote.specs.State.SessionView.{opened_by}
+use Rattle.bidi_active.specs.SessionView.{opened_by}
 use Rattle.bidi_sessions.specs.View.{sent_of}
 use Rattle.bidi_remote.proofs.ChangeLemmas.{agree-opened}
 use Rattle.bidi_remote.proofs.TakeLemmas.{takes, one_reads, opened-shut}

@@ -2,7 +2,7 @@ use Rattle.std.proofs.Common.{◌∙◌, option_map, sym, ap}
 use Rattle.bidi_remote.specs.Machine.Connections.{is_shut}
 use Rattle.bidi_remote.specs.Machine.Outcome.{deeds}
 use Rattle.bidi_sessions.specs.ConnectionRows.{attachment_in_hand}
-use Rattle.bidi_remote.specs.State.SessionView.{opened_by}
+use Rattle.bidi_active.specs.SessionView.{opened_by}
 use Rattle.bidi_remote.proofs.ChangeLemmas.{stands, not_shut, opens, opens-full, opens-open}
 use Rattle.bidi_remote.proofs.state.State.opening_for.Goals as goal
 

@@ -8,12 +8,12 @@ use Rattle.bidi_contexts.specs.Actions.{Log}
 use Rattle.bidi_contexts.specs.Occurrences.{entry_added}
 use Rattle.bidi_browser.specs.Plans as planned
 use Rattle.bidi_contexts.specs.View.{seen}
-use Rattle.bidi_missed.specs.declared.event_text.EventText.{EventText}
+use Rattle.bidi_active.specs.declared.event_text.EventText.{EventText}
 use Rattle.bidi_remote.specs.Machine.History.{acts, moment}
 use Rattle.bidi_remote.specs.Machine.Outcome.{deeds}
-use Rattle.bidi_missed.specs.Written.{Written, written_of, written_in}
+use Rattle.bidi_active.specs.Written.{Written, written_of, written_in}
 use Rattle.bidi_remote.specs.State.EventTexts.{written, AreMessages}
-use Rattle.bidi_remote.specs.State.SessionView as sessions
+use Rattle.bidi_active.specs.SessionView as sessions
 use Rattle.bidi_sessions.specs.View.{sent_of}
 use Rattle.bidi_remote.proofs.BrowseLemmas.{entry-planned, entry_takes, last-written}
 use Rattle.bidi_remote.proofs.ChangeLemmas.{agree-kept, agree-logged}

@@ -5,9 +5,10 @@ use Rattle.bidi_rows.specs.View.{row_of}
 use Rattle.bidi_rows.specs.declared.row.Row as declared_row
 use Rattle.bidi_scripted.specs.declared.script.HeldCommand as declared_held
 use Rattle.bidi_scripted.specs.declared.script.Follower as declared_follower
-use Rattle.bidi_scripted.specs.Script.{Held, Follower, total, most_kept}
+use Rattle.bidi_scripted.specs.Script.{Held, Follower, most_kept}
+use Rattle.bidi_names.specs.Sums.{total}
 use Rattle.bidi_scripted.specs.View.{held_of, follower_of}
-use Rattle.bidi_scripted.proofs.TotalLemmas.{room-some, room-none, room-rows}
+use Rattle.bidi_scripted.proofs.RoomLemmas.{room-some, room-none, room-rows}
 use Rattle.bidi_scripted.proofs.script.Script.can_keep.Goals as goal
 
 -- what rows, held commands and followers have, in the code and in the script

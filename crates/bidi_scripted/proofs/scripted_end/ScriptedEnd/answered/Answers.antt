@@ -4,7 +4,7 @@ use Rattle.bidi_rows.specs.View.{action_of, answer_of}
 use Rattle.bidi_remote.specs.Machine.Outcome.{deeds}
 use Rattle.bidi_scripted.specs.Becomes.{sent_by}
 use Rattle.bidi_scripted.specs.Sending.{answer_sent}
-use Rattle.bidi_scripted.specs.Subscriptions.{named_of}
+use Rattle.bidi_names.specs.Subscriptions.{named_of}
 use Rattle.bidi_scripted.proofs.UseLemmas.{row-there}
 use Rattle.bidi_scripted.proofs.scripted_end.ScriptedEnd.answered.Goals as goal
 

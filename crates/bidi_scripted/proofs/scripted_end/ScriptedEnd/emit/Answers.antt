@@ -3,7 +3,7 @@ use Rattle.bidi_rows.specs.View.{event_of}
 use Rattle.bidi_remote.specs.Machine.Outcome.{deeds}
 use Rattle.bidi_sessions.specs.View.{sent_of}
 use Rattle.bidi_scripted.specs.Sending.{emitted}
-use Rattle.bidi_scripted.specs.Subscriptions.{named_of}
+use Rattle.bidi_names.specs.Subscriptions.{named_of}
 use Rattle.bidi_scripted.proofs.FaultLemmas.{refused, unread-lives, remote-refused}
 use Rattle.bidi_scripted.proofs.scripted_end.ScriptedEnd.emit.Goals as goal
 

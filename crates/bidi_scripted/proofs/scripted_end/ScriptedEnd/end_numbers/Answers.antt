@@ -2,8 +2,9 @@ use Rattle.std.proofs.Common.{◌∙◌, Some, map, refl, ap, ap₂}
 use Rattle.std.specs.Prelude.{if◌then◌else◌}
 use Rattle.bidi_sessions.specs.View.{sent_of}
 use Rattle.bidi_remote.specs.Machine.Outcome.{deeds}
-use Rattle.bidi_scripted.specs.Asked.{Ends}
-use Rattle.bidi_scripted.specs.Kept.{cancelled, succeeded}
+use Rattle.bidi_names.specs.Asked.{Ends}
+use Rattle.bidi_names.specs.Subscriptions.{cancelled}
+use Rattle.bidi_names.specs.Replies.{succeeded}
 use Rattle.bidi_scripted.specs.Script.{Script}
 use Rattle.bidi_scripted.specs.View.{script_of}
 use Rattle.bidi_scripted.proofs.FateLemmas.{part-changed}

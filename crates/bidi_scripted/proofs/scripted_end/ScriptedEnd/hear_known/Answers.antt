@@ -1,7 +1,6 @@
 use Rattle.std.proofs.Common.{◌∙◌, IfOk, sym, ap, subst}
 use Rattle.bidi_remote.specs.Machine.Outcome.{deeds}
-use Rattle.bidi_scripted.specs.Kept.{IsKept}
-use Rattle.bidi_scripted.specs.Asked.{taken_by}
+use Rattle.bidi_scripted.specs.Kept.{IsKept, taken_by}
 use Rattle.bidi_scripted.specs.View.{script_of}
 use Rattle.bidi_scripted.proofs.FateLemmas.{part-handed, part-as, with_err}
 use Rattle.bidi_scripted.proofs.KeptLemmas.{kept-none}

@@ -3,9 +3,8 @@ use Rattle.bidi_remote.specs.Machine.Connections.{attachment_of}
 use Rattle.bidi_remote.specs.Machine.Asking.{session_in}
 use Rattle.bidi_remote.specs.Machine.Outcome.{deeds}
 use Rattle.bidi_remote.specs.Machine.Sent.{Lost}
-use Rattle.bidi_scripted.specs.Asked.{text_taken}
+use Rattle.bidi_scripted.specs.Kept.{text_taken, IsKept}
 use Rattle.bidi_scripted.specs.Becomes.{IsPartTaken}
-use Rattle.bidi_scripted.specs.Kept.{IsKept}
 use Rattle.bidi_scripted.specs.Script.{Held}
 use Rattle.bidi_scripted.specs.View.{script_of, held_of}
 use Rattle.bidi_sessions.proofs.ListLemmas.{some-same}

@@ -2,9 +2,8 @@ use Rattle.std.proofs.Common.{◌∙◌, string_bytes, sym, ap, subst}
 use Rattle.bidi_remote.specs.Machine.Connections.{attachment_of}
 use Rattle.bidi_remote.specs.Machine.Asking.{session_in}
 use Rattle.bidi_remote.specs.Machine.Outcome.{deeds}
-use Rattle.bidi_scripted.specs.Asked.{text_taken}
+use Rattle.bidi_scripted.specs.Kept.{text_taken, IsKept}
 use Rattle.bidi_scripted.specs.Becomes.{IsPartTaken}
-use Rattle.bidi_scripted.specs.Kept.{IsKept}
 use Rattle.bidi_scripted.specs.View.{script_of}
 use Rattle.bidi_scripted.specs.Script.{Script, without_held}
 use Rattle.bidi_scripted.proofs.scripted_end.ScriptedEnd.release_text.Goals as goal

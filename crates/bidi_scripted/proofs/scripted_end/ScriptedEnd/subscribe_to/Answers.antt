@@ -3,8 +3,8 @@ use Rattle.std.specs.Prelude.{is_some}
 use Rattle.bidi_sessions.specs.View.{sent_of}
 use Rattle.bidi_sessions.specs.SubscriptionView.{scope_of}
 use Rattle.bidi_remote.specs.Machine.Outcome.{deeds}
-use Rattle.bidi_scripted.specs.Asked.{Subscribes}
-use Rattle.bidi_scripted.specs.Kept.{Gives}
+use Rattle.bidi_names.specs.Asked.{Subscribes}
+use Rattle.bidi_names.specs.Replies.{Gives}
 use Rattle.bidi_scripted.specs.Script.{Script}
 use Rattle.bidi_scripted.specs.View.{script_of}
 use Rattle.bidi_scripted.proofs.FateLemmas.{part-changed}

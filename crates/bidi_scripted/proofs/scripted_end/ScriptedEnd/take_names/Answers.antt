@@ -1,9 +1,9 @@
 use Rattle.std.proofs.Common.{None, IfOk, map, option_map, refl, sym, ap, subst}
 use Rattle.bidi_remote.specs.Machine.Outcome.{deeds}
-use Rattle.bidi_scripted.specs.Kept.{KeptFor}
-use Rattle.bidi_scripted.specs.Asked.{taken_for}
-use Rattle.bidi_scripted.specs.Subscriptions.{named_of}
-use Rattle.bidi_scripted.specs.View.{script_of, asked_seen}
+use Rattle.bidi_scripted.specs.Kept.{KeptFor, taken_for}
+use Rattle.bidi_names.specs.Subscriptions.{named_of}
+use Rattle.bidi_scripted.specs.View.{script_of}
+use Rattle.bidi_names.specs.View.{asked_seen}
 use Rattle.bidi_scripted.proofs.FateLemmas.{part-handed, part-as, with_err}
 use Rattle.bidi_scripted.proofs.KeptLemmas.{kept-handed}
 use Rattle.bidi_scripted.proofs.scripted_end.ScriptedEnd.take_names.Goals as goal

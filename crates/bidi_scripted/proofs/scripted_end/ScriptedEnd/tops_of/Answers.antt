@@ -6,7 +6,7 @@ use Rattle.bidi_remote.specs.Machine.Asking.{top_named}
 use Rattle.bidi_remote.specs.Machine.History.{acts}
 use Rattle.bidi_remote.specs.Machine.Outcome.{deeds}
 use Rattle.bidi_scripted.specs.Kept.{top_number}
-use Rattle.bidi_scripted.specs.View.{texts_of}
+use Rattle.bidi_names.specs.View.{texts_of}
 use Rattle.bidi_scripted.proofs.KeptLemmas.{listed-next}
 use Rattle.bidi_scripted.proofs.scripted_end.ScriptedEnd.tops_of.Goals as goal
 

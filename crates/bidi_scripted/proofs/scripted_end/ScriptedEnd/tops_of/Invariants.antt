@@ -4,7 +4,7 @@ use Rattle.bidi_remote.specs.Machine.History.{Input}
 use Rattle.bidi_remote.specs.Machine.Outcome.{deeds}
 use Rattle.bidi_remote.specs.State.Stands.{StandsFor}
 use Rattle.bidi_scripted.specs.Kept.{top_number}
-use Rattle.bidi_scripted.specs.View.{texts_of}
+use Rattle.bidi_names.specs.View.{texts_of}
 use Rattle.bidi_scripted.proofs.scripted_end.ScriptedEnd.tops_of.Given as goal
 
 -- what is left is added to what was found

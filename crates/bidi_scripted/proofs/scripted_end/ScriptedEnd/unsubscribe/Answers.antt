@@ -3,11 +3,13 @@ use Rattle.std.specs.Prelude.{if◌then◌else◌}
 use Rattle.std.specs.List.{list_all}
 use Rattle.bidi_sessions.specs.View.{sent_of}
 use Rattle.bidi_remote.specs.Machine.Outcome.{deeds}
-use Rattle.bidi_scripted.specs.Asked.{Unsubscribes, holds_globally, part_or}
-use Rattle.bidi_scripted.specs.Kept.{dismissed, succeeded}
+use Rattle.bidi_names.specs.Asked.{Unsubscribes}
+use Rattle.bidi_names.specs.Subscriptions.{holds_globally, dismissed, named_of}
+use Rattle.bidi_scripted.specs.Kept.{part_or}
+use Rattle.bidi_names.specs.Replies.{succeeded}
 use Rattle.bidi_scripted.specs.Script.{Script}
-use Rattle.bidi_scripted.specs.Subscriptions.{named_of}
-use Rattle.bidi_scripted.specs.View.{script_of, texts_of, wanted_of}
+use Rattle.bidi_scripted.specs.View.{script_of}
+use Rattle.bidi_names.specs.View.{texts_of, wanted_of}
 use Rattle.bidi_scripted.proofs.AskLemmas.{first-of}
 use Rattle.bidi_scripted.proofs.FateLemmas.{part-changed, part-as}
 use Rattle.bidi_scripted.proofs.KeptLemmas.{kept-by, kept-handed, none-dismissed, all-dismissed}

@@ -1,0 +1,5 @@
+pub mod Written
+pub mod Places
+pub mod News
+pub mod SessionRows
+pub mod SessionView

@@ -1,0 +1,4 @@
+pub mod SumLemmas
+pub mod AskLemmas
+pub mod ReplyLemmas
+pub mod SubscriptionLemmas
