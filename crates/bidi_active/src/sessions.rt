@@ -73,7 +73,7 @@ impl Session {
 
     /// The number of its next subscription. It never wraps, because each subscription takes an input.
     pub fn next_subscription(&self) -> u32
-        // The result is one more than the number of those that it has made.
+        // The result is one more than the number of those that it has made, if that is less than 4,294,967,295.
         ensures { self.now.made < 4294967295 → result ≡ self.now.made + 1 }
     {
         self.made.wrapping_add(1)
@@ -172,7 +172,7 @@ impl Sessions {
 
     /// The number of the next session. A step makes one at most, so it never wraps.
     pub fn next(&self) -> u32
-        // The result is one more than the number of those that were ever made.
+        // The result is one more than the number of those that were ever made, if that is less than 4,294,967,295.
         ensures { self.now.made < 4294967295 → result ≡ self.now.made + 1 }
     {
         self.made.wrapping_add(1)
@@ -191,7 +191,7 @@ impl Sessions {
 
     /// Whether each of these events is in a global subscription of a session. One that is not active has none.
     pub fn all_global(&self, number: u32, events: &[EventName]) -> bool
-        // True exactly if a global subscription of the session's row has each of them.
+        // True exactly if each of them is in some global subscription of the session's row.
         ensures { result ≡ list_all (any_global (row_in number (rows_in self.now)).subscriptions) events.now }
     {
         match find(&self.active, number) {
@@ -259,7 +259,7 @@ impl Sessions {
     pub fn begin(&mut self, missed: LogBuffer) -> u32
         // There is room for one more.
         requires { HasRoomForOne self.now }
-        // The result is the next number.
+        // The result is the next number, if fewer than 4,294,967,295 sessions were ever made.
         ensures number { self.old.made < 4294967295 → result ≡ self.old.made + 1 }
         // The session counts as made.
         ensures made { self.new.made ≡ result }
@@ -297,7 +297,7 @@ impl Sessions {
     )
         // The session, if it is active, has room for it.
         requires { HasRoomIn number events.items (scope_of scope) self.now }
-        // The session's row has the subscription, and no longer the entries that it newly enables; the others stay.
+        // If it has made fewer than 4,294,967,295, its row has the subscription, and no longer the entries that this enables; the others stay.
         ensures rows { (past : List Act) → StandsFor browser.now past → (row_in number (rows_in self.old)).made < 4294967295
             → rows_in self.new ≡ changed number (subscribed past events.items (scope_of scope)) (rows_in self.old) }
         // The count of sessions stays.

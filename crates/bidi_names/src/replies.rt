@@ -94,7 +94,7 @@ pub fn subscription_numbers(
     ids: &[String],
     session: u32,
 ) -> Result<Vec<u64>, AllocError>
-    // An Ok has exactly the numbers below 2^48 whose ids are among these.
+    // An Ok has a number below 2^48 exactly if its id is among these.
     ensures { IfOk result (λ numbers. AreNumbers (id_text IdKind.Subscription session) (map string_bytes ids.now) numbers.items) }
 {
     let mut numbers = Vec::new(alloc);
@@ -110,7 +110,7 @@ pub fn subscription_numbers(
 /// # Errors
 /// No memory: an allocation failed.
 pub fn user_numbers(alloc: Global, ids: &[String]) -> Result<Vec<u64>, AllocError>
-    // An Ok has exactly the numbers below 2^48 whose ids are among these.
+    // An Ok has a number below 2^48 exactly if its id is among these.
     ensures { IfOk result (λ numbers. AreNumbers user_id (map string_bytes ids.now) numbers.items) }
 {
     let mut numbers = Vec::new(alloc);

@@ -186,7 +186,7 @@ fn left_by_names(subscriptions: &[NamedSubscription], session: u32, names: usize
 
 /// Whether each of these names is in a subscription of a session for all contexts. Takes no memory.
 pub fn are_global(subscriptions: &[NamedSubscription], session: u32, names: &[String]) -> bool
-    // The result is as the definition says, for each name by itself.
+    // True exactly if each name itself is in such a subscription.
     ensures { result ≡ list_all (holds_globally (map named_of subscriptions.now) session) (map string_bytes names.now) }
 {
     for name in names {
@@ -216,7 +216,7 @@ fn has_global(subscriptions: &[NamedSubscription], session: u32, name: &str) -> 
 
 /// Removes these names from the subscriptions of a session for all contexts. Those with no name left go.
 pub fn dismiss(subscriptions: &mut Vec<NamedSubscription>, session: u32, names: &[String])
-    // The subscriptions are as the definition says; all others stay as they are.
+    // The names are gone from those for all contexts, and what has no name left is gone; all others stay as they are.
     ensures { map named_of subscriptions.new.items ≡ dismissed session (map string_bytes names.now) (map named_of subscriptions.old.items) }
 {
     strip(subscriptions, session, names);
