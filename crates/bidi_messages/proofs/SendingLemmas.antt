@@ -4,7 +4,7 @@ use Rattle.std.proofs.Common.{bytes_eq, List, [], ◌∷◌, codes, Option, Some
 use Rattle.std.proofs.Common.{IfOk, String, Global, string_bytes, refl, sym, ap, ap₂, subst, zero-le, arith, ◌++◌, append_assoc}
 use Rattle.std.specs.Prelude.{decimal}
 use Rattle.std.proofs.lemmas.Bool.{leb-true}
-use Rattle.json.specs.Print.{escape_byte}
+use Rattle.json.specs.Print.{escape, escape_byte}
 use Rattle.bidi_tree.specs.Node.{Node, Members, no_members, member, put, map, text, levels, IsSound, IsWhole, IsWritable, MembersAreWhole}
 use Rattle.bidi_tree.specs.Text.{tree_of, compact_text}
 use Rattle.bidi_tree.specs.declared.number.JsUint.{JsUint}
@@ -28,11 +28,13 @@ use Rattle.bidi_params.specs.ErrorCode.{error_code_text, error_code_words}
 use Rattle.bidi_methods.specs.EventData.{event_of}
 use Rattle.bidi_methods.specs.EventName.{event_name_text}
 use Rattle.bidi_messages.specs.Reading.{IsEvent, IsMessageText}
-use Rattle.bidi_messages.specs.Message.{id_tree, response_tree, error_tree, event_text as told_text}
+use Rattle.bidi_messages.specs.Message.{id_tree, response_tree, error_tree, event_tree, event_text as told_text}
 use Rattle.bidi_methods.specs.declared.event_data.EventName.{EventName}
+use Rattle.bidi_methods.specs.declared.event_data.EventName.TheVariants.{ContextCreated, ContextDestroyed, NavigationStarted, DomContentLoaded, Load, RealmCreated, RealmDestroyed, EntryAdded}
 use Rattle.bidi_methods.specs.declared.method.Method.{Method}
 use Rattle.bidi_methods.specs.declared.method.Method.TheVariants.{ScriptEvaluate, ScriptCallFunction}
 use Rattle.bidi_params.specs.declared.error_code.ErrorCode.{ErrorCode}
+use Rattle.bidi_params.specs.declared.error_code.ErrorCode.TheVariants.{InvalidArgument, InvalidSelector, InvalidSessionId, MoveTargetOutOfBounds, NoSuchAlert, NoSuchElement, NoSuchFrame, NoSuchHandle, NoSuchHistoryEntry, NoSuchIntercept, NoSuchNode, NoSuchRequest, NoSuchScript, NoSuchStoragePartition, NoSuchUserContext, SessionNotCreated, UnableToCaptureScreen, UnableToCloseBrowser, UnableToSetCookie, UnableToSetFileInput, UnknownCommand, UnknownError, UnsupportedOperation}
 use Rattle.bidi_methods.specs.declared.event_data.EventData.{EventData}
 use Rattle.bidi_messages.specs.declared.message.Message.{Message}
 use Rattle.bidi_messages.specs.declared.message.Message.TheVariants.{Event as AsEvent}
@@ -154,6 +156,109 @@ around-back s id t is sound whole =
     let fits : IsSound (response_tree id.value t) = (((refl, (refl, tt)), ((refl, tt), (tt, tt))), (id.in_range, (sound, (tt, tt)))) in
     ap tree_of is ∙ tree_of-compact_text (response_tree id.value t) fits (response_writable id.value t 61 whole whole.1)
 
+-- ---- an error
+
+-- no code has a byte that is escaped
+plain : (code : ErrorCode) → escape (error_code_text code) ≡ error_code_text code
+unfolding escape_byte
+plain InvalidArgument = refl
+plain InvalidSelector = refl
+plain InvalidSessionId = refl
+plain MoveTargetOutOfBounds = refl
+plain NoSuchAlert = refl
+plain NoSuchElement = refl
+plain NoSuchFrame = refl
+plain NoSuchHandle = refl
+plain NoSuchHistoryEntry = refl
+plain NoSuchIntercept = refl
+plain NoSuchNode = refl
+plain NoSuchRequest = refl
+plain NoSuchScript = refl
+plain NoSuchStoragePartition = refl
+plain NoSuchUserContext = refl
+plain SessionNotCreated = refl
+plain UnableToCaptureScreen = refl
+plain UnableToCloseBrowser = refl
+plain UnableToSetCookie = refl
+plain UnableToSetFileInput = refl
+plain UnknownCommand = refl
+plain UnknownError = refl
+plain UnsupportedOperation = refl
+
+-- the text of an error, by what stands for the code between its quotes, and by the text of its id
+abbrev written : (n i : List ℕ) → List ℕ
+written n i =
+    codes "{\"error\":\"" ++ ((n ++ 34 ∷ []) ++ (codes ",\"id\":" ++ (i ++ (codes ",\"message\":\"" ++ ((n ++ 34 ∷ []) ++ codes ",\"type\":\"error\"}")))))
+
+-- seven pieces, pushed one after another
+seven : (s0 s1 s2 s3 s4 s5 s6 s7 n i : List ℕ) → s0 ≡ [] → s1 ≡ s0 ++ codes "{\"error\":\"" → s2 ≡ s1 ++ n → s3 ≡ s2 ++ codes "\",\"id\":" → s4 ≡ s3 ++ i
+    → s5 ≡ s4 ++ codes ",\"message\":\"" → s6 ≡ s5 ++ n → s7 ≡ s6 ++ codes "\",\"type\":\"error\"}" → s7 ≡ written n i
+seven s0 s1 s2 s3 s4 s5 s6 s7 n i e0 e1 e2 e3 e4 e5 e6 e7 =
+    let a = codes "{\"error\":\"" in
+    let b = codes "\",\"id\":" in
+    let c = codes ",\"message\":\"" in
+    let d = codes "\",\"type\":\"error\"}" in
+    let w = n ++ d in
+    let five = appended s0 s1 s2 s3 s4 s5 a n b i c e0 e1 e2 e3 e4 e5 in
+    let last : s7 ≡ s5 ++ w = e7 ∙ (ap (λ x. x ++ d) e6 ∙ append_assoc s5 n d) in
+    let flat : (a ++ (n ++ (b ++ (i ++ c)))) ++ w ≡ a ++ (n ++ (b ++ (i ++ (c ++ w)))) =
+    append_assoc a (n ++ (b ++ (i ++ c))) w
+    ∙ ap (λ x. a ++ x) (append_assoc n (b ++ (i ++ c)) w ∙ ap (λ x. n ++ x) (append_assoc b (i ++ c) w ∙ ap (λ x. b ++ x) (append_assoc i c w))) in
+    let inner : w ≡ (n ++ 34 ∷ []) ++ codes ",\"type\":\"error\"}" = sym (append_assoc n (34 ∷ []) (codes ",\"type\":\"error\"}")) in
+    let outer : n ++ (b ++ (i ++ (c ++ w))) ≡ (n ++ 34 ∷ []) ++ (codes ",\"id\":" ++ (i ++ (c ++ w))) =
+    sym (append_assoc n (34 ∷ []) (codes ",\"id\":" ++ (i ++ (c ++ w)))) in
+    last ∙ (ap (λ x. x ++ w) five ∙ (flat ∙ (ap (λ x. a ++ x) outer
+    ∙ ap (λ x. a ++ ((n ++ 34 ∷ []) ++ (codes ",\"id\":" ++ (i ++ (c ++ x))))) inner)))
+
+pub error-text : (s0 s1 s2 s3 s4 s5 s6 s7 n i : List ℕ) (id : Option ℕ) (code : ErrorCode) → s0 ≡ [] → s1 ≡ s0 ++ codes "{\"error\":\"" → s2 ≡ s1 ++ n
+    → s3 ≡ s2 ++ codes "\",\"id\":" → s4 ≡ s3 ++ i → s5 ≡ s4 ++ codes ",\"message\":\"" → s6 ≡ s5 ++ n → s7 ≡ s6 ++ codes "\",\"type\":\"error\"}"
+    → n ≡ error_code_text code → i ≡ compact_text (id_tree id) → s7 ≡ compact_text (error_tree id code)
+unfolding escape_byte
+error-text s0 s1 s2 s3 s4 s5 s6 s7 n i id code e0 e1 e2 e3 e4 e5 e6 e7 name number =
+    seven s0 s1 s2 s3 s4 s5 s6 s7 n i e0 e1 e2 e3 e4 e5 e6 e7 ∙ ap₂ written (name ∙ sym (plain code)) number
+
+id_sound : (id : Option JsUint) → IsSound (id_tree (option_map (λ n. n.value) id))
+id_sound None = tt
+id_sound (Some n) = n.in_range
+
+-- it reads back
+pub error-back : (s : List ℕ) (id : Option JsUint) (code : ErrorCode) → s ≡ compact_text (error_tree (option_map (λ n. n.value) id) code)
+    → tree_of s ≡ Some (error_tree (option_map (λ n. n.value) id) code)
+error-back s id code is =
+    let number = option_map (λ (n : JsUint). n.value) id in
+    let fits : IsSound (error_tree number code) = (((refl, (refl, (refl, tt))), ((refl, (refl, tt)), ((refl, tt), (tt, tt)))), (tt, (id_sound id, (tt, (tt, tt))))) in
+    ap tree_of is ∙ tree_of-compact_text (error_tree number code) fits (error_writable number code)
+
+-- ---- an event
+
+-- no name of an event has a byte that is escaped
+plain-name : (e : EventName) → escape (event_name_text e) ≡ event_name_text e
+unfolding escape_byte
+plain-name ContextCreated = refl
+plain-name ContextDestroyed = refl
+plain-name NavigationStarted = refl
+plain-name DomContentLoaded = refl
+plain-name Load = refl
+plain-name RealmCreated = refl
+plain-name RealmDestroyed = refl
+plain-name EntryAdded = refl
+
+pub event-text : (s0 s1 s2 s3 s4 s5 n p : List ℕ) (e : EventName) (t : Node) → s0 ≡ [] → s1 ≡ s0 ++ codes "{\"method\":\"" → s2 ≡ s1 ++ n
+    → s3 ≡ s2 ++ codes "\",\"params\":" → s4 ≡ s3 ++ p → s5 ≡ s4 ++ codes ",\"type\":\"event\"}"
+    → n ≡ event_name_text e → p ≡ compact_text t → s5 ≡ compact_text (event_tree e t)
+unfolding escape_byte
+event-text s0 s1 s2 s3 s4 s5 n p e t e0 e1 e2 e3 e4 e5 name params =
+    appended s0 s1 s2 s3 s4 s5 _ n _ p _ e0 e1 e2 e3 e4 e5
+    ∙ (ap (λ x. codes "{\"method\":\"" ++ x) (sym (append_assoc n (34 ∷ []) (codes ",\"params\":" ++ (p ++ codes ",\"type\":\"event\"}"))))
+    ∙ ap₂ (λ x y. codes "{\"method\":\"" ++ ((x ++ 34 ∷ []) ++ (codes ",\"params\":" ++ (y ++ codes ",\"type\":\"event\"}")))) (name ∙ sym (plain-name e)) params)
+
+-- it reads back
+pub event-back : (s : List ℕ) (e : EventName) (t : Node) → s ≡ compact_text (event_tree e t) → IsSound t → IsWritable (event_tree e t)
+    → tree_of s ≡ Some (event_tree e t)
+event-back s e t is sound fits =
+    let all : IsSound (event_tree e t) = (((refl, (refl, tt)), ((refl, tt), (tt, tt))), (tt, (sound, (tt, tt)))) in
+    ap tree_of is ∙ tree_of-compact_text (event_tree e t) all fits
+
 -- ---- maps of one type are none of another
 
 type_is : (o : Option Node) (s : List ℕ) → RowFits required (exactly s) o → o ≡ Some (text s)
@@ -181,6 +286,11 @@ an_event d e = AsEvent (record { «data» = d; ext = e })
 
 abbrev after_event : EventData → Ext → Members
 after_event d e = put (codes "method") (text (event_name_text (event_of d))) (put (codes "params") (told.ghosts.payload.tree_of d) (others_of e))
+
+-- its tree is that of its name and params
+pub event-is : (d : EventData) (e : Ext) → others_of e ≡ no_members
+    → event_tree (event_of d) (told.ghosts.payload.tree_of d) ≡ sent.ghosts.shape.tree_of (an_event d e)
+event-is d e none = rw none refl
 
 pub event_well : (d : EventData) (e : Ext) → told.ghosts.payload.well d → others_of e ≡ no_members → sent.ghosts.shape.well (an_event d e)
 event_well d e well none = (

@@ -1,22 +1,20 @@
 //! The texts that a remote end sends. They have only the members that their rule names.
-ghost use Rattle.std.specs.Prelude.{◌≡◌, ◌≤◌, Some, IfOk, string_bytes, option_map};
+ghost use Rattle.std.specs.Prelude.{◌≡◌, ◌≤◌, ◌++◌, Some, IfOk, OnOk, string_bytes, option_map};
 ghost use Rattle.bidi_tree.specs.Node.{Node, levels, IsSound, IsWhole, IsWritable};
 ghost use Rattle.bidi_tree.specs.Outline.{outline_node};
 ghost use Rattle.bidi_tree.specs.Text.{tree_of, compact_text};
 ghost use Rattle.bidi_shape.specs.Term.{rule};
 ghost use Rattle.bidi_shape.specs.Fits.{Fits};
 ghost use Rattle.bidi_methods.specs.Method.{result_of};
-ghost use Rattle.bidi_messages.specs.Message.{response_tree, response_text, error_tree, error_text, event_text};
+ghost use Rattle.bidi_messages.specs.Message.{id_tree, response_tree, response_text, error_text, event_text};
 ghost use Rattle.bidi_messages.specs.Reading.{IsMessageText};
 ghost use Rattle.bidi_messages.specs.Payloads.{EventIsWell, ResultIsWell, event_of, event_params, result_tree};
 
-use crate::envelope::outline_envelope;
-use crate::event::EventType;
 use crate::message::Message;
-use bidi_methods::{EventData, EventName, Method, Payload, ResultData};
+use bidi_methods::{EventData, Method, Payload, ResultData};
 use bidi_params::ErrorCode;
 use bidi_shape::{Ext, Named, Shape};
-use bidi_tree::{JsUint, Outline, OutlineMembers, put_outline, write_outline};
+use bidi_tree::{JsUint, append_outline};
 use std::alloc::{AllocError, Global};
 
 /// Makes the text of the response to a command: compact, its members in byte order of their names.
@@ -81,28 +79,23 @@ fn write_response<D: Payload<Method>>(
     id: JsUint,
     result_data: D,
 ) -> Result<String, AllocError>
-    requires { IsWritable (response_tree id.value (D.payload.tree_of result_data)) }
+    requires { IsWhole (D.payload.tree_of result_data) 61 }
     ensures text { IfOk result (λ s. string_bytes s ≡ response_text id.value (D.payload.tree_of result_data)) }
     ensures tree { IfOk result (λ s. tree_of (string_bytes s) ≡ Some (response_tree id.value (D.payload.tree_of result_data))) }
 {
-    let outline = outline_response(alloc, &id, &result_data)?;
-    write_outline(alloc, &outline)
+    let mut digits = itoa::Buffer::new();
+    let result = result_data.outline(alloc)?;
+    let mut text = String::with_capacity(alloc, ROOM)?;
+    text.push_str("{\"id\":")?;
+    text.push_str(digits.format(id.value))?;
+    text.push_str(",\"result\":")?;
+    let mut text = append_outline(text, &result)?;
+    text.push_str(",\"type\":\"success\"}")?;
+    Ok(text)
 }
 
-/// Makes the outline of a response.
-fn outline_response<'a, D: Payload<Method>>(
-    alloc: Global,
-    id: &'a JsUint,
-    result_data: &'a D,
-) -> Result<Outline<'a>, AllocError>
-    ensures { IfOk result (λ d. outline_node d ≡ response_tree id.now.value (D.payload.tree_of result_data.now)) }
-{
-    let mut members = OutlineMembers::with_capacity(alloc, 3)?;
-    put_outline(&mut members, "id", id.outline(alloc)?)?;
-    put_outline(&mut members, "result", result_data.outline(alloc)?)?;
-    put_outline(&mut members, "type", Outline::Text("success"))?;
-    Ok(Outline::Map(members))
-}
+/// The room that the text of a response or an event starts with; it grows as needed.
+const ROOM: usize = 256;
 
 /// Makes the text of an event: compact, its members in byte order of their names.
 ///
@@ -117,9 +110,17 @@ pub fn event_text(alloc: Global, event: &EventData) -> Result<String, AllocError
     // The text is that of a message, so `read_message` accepts it.
     ensures reads_back { IfOk result (λ s. IsMessageText ⟦<Message as Shape>⟧.shape (string_bytes s)) }
 {
-    let ext = Ext::empty(alloc);
-    let outline = outline_envelope(alloc, "type", &EventType::Event, event, &ext)?;
-    write_outline(alloc, &outline)
+    // The event has no further members.
+    let _ext = Ext::empty(alloc);
+    let name = event.kind().name();
+    let params = event.outline(alloc)?;
+    let mut text = String::with_capacity(alloc, ROOM)?;
+    text.push_str("{\"method\":\"")?;
+    text.push_str(name)?;
+    text.push_str("\",\"params\":")?;
+    let mut text = append_outline(text, &params)?;
+    text.push_str(",\"type\":\"event\"}")?;
+    Ok(text)
 }
 
 /// Makes the text of an error, whose message is the string of the code.
@@ -132,22 +133,30 @@ pub fn error_text(alloc: Global, id: Option<JsUint>, code: ErrorCode) -> Result<
     // The text is that of a message, so `read_message` accepts it.
     ensures reads_back { IfOk result (λ s. IsMessageText ⟦<Message as Shape>⟧.shape (string_bytes s)) }
 {
-    let outline = outline_error(alloc, &id, code)?;
-    write_outline(alloc, &outline)
+    let name = code.name();
+    let mut text = String::with_capacity(alloc, ERROR_ROOM)?;
+    text.push_str("{\"error\":\"")?;
+    text.push_str(name)?;
+    text.push_str("\",\"id\":")?;
+    push_id(&mut text, id)?;
+    text.push_str(",\"message\":\"")?;
+    text.push_str(name)?;
+    text.push_str("\",\"type\":\"error\"}")?;
+    Ok(text)
 }
 
-/// Makes the outline of an error.
-fn outline_error<'a>(
-    alloc: Global,
-    id: &'a Option<JsUint>,
-    code: ErrorCode,
-) -> Result<Outline<'a>, AllocError>
-    ensures { IfOk result (λ d. outline_node d ≡ error_tree (option_map (λ n. n.value) id.now) code) }
+/// The room for an error.
+const ERROR_ROOM: usize = 128;
+
+/// Appends the text of an id, or of null.
+fn push_id(text: &mut String, id: Option<JsUint>) -> Result<(), AllocError>
+    ensures { OnOk result (string_bytes text.new ≡ string_bytes text.old ++ compact_text (id_tree (option_map (λ n. n.value) id))) }
 {
-    let mut members = OutlineMembers::with_capacity(alloc, 4)?;
-    put_outline(&mut members, "error", Outline::Text(code.name()))?;
-    put_outline(&mut members, "id", id.outline(alloc)?)?;
-    put_outline(&mut members, "message", Outline::Text(code.name()))?;
-    put_outline(&mut members, "type", Outline::Text("error"))?;
-    Ok(Outline::Map(members))
+    match id {
+        Some(id) => {
+            let mut digits = itoa::Buffer::new();
+            text.push_str(digits.format(id.value))
+        }
+        None => text.push_str("null"),
+    }
 }

@@ -63,4 +63,4 @@ pub use sorted::Sorted;
 pub use tree::{Members, Tree, find_member, put_member};
 pub use value_whole::is_parsed_whole;
 pub use whole::are_whole;
-pub use writing::{write, write_outline};
+pub use writing::{append_outline, write, write_outline};

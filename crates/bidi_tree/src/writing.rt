@@ -53,7 +53,22 @@ pub fn write_outline(alloc: Global, outline: &Outline<'_>) -> Result<String, All
     // The text reads back as the outline's tree.
     ensures reads_back { IfOk result (λ s. tree_of (string_bytes s) ≡ Some (outline_node outline.now)) }
 {
-    let mut out = Writer::new(Vec::with_capacity(alloc, ROOM)?);
+    append_outline(String::with_capacity(alloc, ROOM)?, outline)
+}
+
+/// Appends the compact JSON text of an outline to a text. Walks the outline once.
+///
+/// # Errors
+/// No memory: an allocation failed. The text is then lost.
+///
+/// After RFC 8259.
+pub fn append_outline(text: String, outline: &Outline<'_>) -> Result<String, AllocError>
+    // The outline has no `Odd` and at most 100 levels.
+    requires { IsWritable (outline_node outline.now) }
+    // The compact text of the outline stands behind what there was.
+    ensures { IfOk result (λ s. string_bytes s ≡ string_bytes text ++ compact_text (outline_node outline.now)) }
+{
+    let mut out = Writer::new(text.into_bytes());
     write_value(&mut out, outline)?;
     Ok(unsafe { String::from_utf8_unchecked(out.into_inner()) })
 }

@@ -1,10 +1,10 @@
 use Rattle.bidi_methods.specs.contracts.result_data.ResultDataPayloadMethod.TheImpl.{ghosts}
 use Rattle.bidi_messages.specs.contracts.message.MessageShape.TheImpl as message
-use Rattle.bidi_messages.proofs.SendingLemmas.{is_text, no_event-response, response_fits, response_writable}
+use Rattle.bidi_messages.proofs.SendingLemmas.{is_text, no_event-response, response_fits}
 use Rattle.bidi_messages.proofs.sending.response_text.Goals as goal
 
 pub write_response-requires : goal.write_response-requires
-write_response-requires c = response_writable c.args.id.value _ 70 (ghosts.payload.whole c.args.result_data c.requires.well) c.requires.small
+write_response-requires c = ((ghosts.payload.whole c.args.result_data c.requires.well).0, c.requires.small)
 
 pub returns-clause-reads_back : goal.returns-clause-reads_back
 returns-clause-reads_back c =

@@ -1,22 +1,26 @@
-use Rattle.std.proofs.Common.{◌≡◌, ◌++◌, ℕ, List, string_bytes, ap, ap₂, ◌∙◌}
-use Rattle.json.specs.Print.{print}
-use Rattle.bidi_tree.specs.Data.{tokens_of}
-use Rattle.bidi_tree.specs.Text.{tree_of, compact_text}
+use Rattle.std.proofs.Common.{◌≡◌, ◌∙◌, ◌++◌, ℕ, List, [], Some, Result, Ok, Err, IfOk, String, Global, string_bytes, ap}
+use Rattle.bidi_tree.specs.Node.{Node}
+use Rattle.bidi_tree.specs.Text.{tree_of}
 use Rattle.bidi_tree.specs.Outline.{outline_node}
 use Rattle.bidi_tree.proofs.OutlineLemmas.{IsSound-outline_node}
-use Rattle.bidi_tree.proofs.RoundTrip.{print-tokens_of, tree_of-compact_text}
+use Rattle.bidi_tree.proofs.RoundTrip.{tree_of-compact_text}
 use Rattle.bidi_tree.proofs.writing.write_outline.Goals as goal
 
+-- a text that stands behind nothing
+alone : {E : Type 0} (r : Result (String Global) E) (s t : List ℕ) → s ≡ [] → IfOk r (λ x. string_bytes x ≡ s ++ t) → IfOk r (λ x. string_bytes x ≡ t)
+alone (Ok x) s t none is = is ∙ ap (λ y. y ++ t) none
+alone (Err e) s t none is = tt
+
+-- it reads back
+back : {E : Type 0} (r : Result (String Global) E) (t : List ℕ) (n : Node) → tree_of t ≡ Some n → IfOk r (λ x. string_bytes x ≡ t)
+    → IfOk r (λ x. tree_of (string_bytes x) ≡ Some n)
+back (Ok x) t n reads is = ap tree_of is ∙ reads
+back (Err e) t n reads is = tt
+
 pub returns-clause-text : goal.returns-clause-text
-returns-clause-text c =
-    let n = outline_node c.args.outline.now in
-    let before = c.in_ok-write_value.ensures.before ∙ (c.new-out.ensures.before ∙ c.in_ok-with_capacity.ensures.items) in
-    let tokens = c.in_ok-write_value.ensures.tokens ∙ ap (λ ts. ts ++ tokens_of n) c.new-out.ensures.tokens in
-    ap (λ v. v.items) c.from_utf8_unchecked.ensures.value
-    ∙ (c.into_inner.ensures.items ∙ (ap₂ (λ (a b : List ℕ). a ++ b) before (ap print tokens) ∙ print-tokens_of n c.requires.0))
+returns-clause-text c = alone c.append_outline.result _ _ c.in_ok-with_capacity.ensures.bytes c.append_outline.ensures
 
 pub returns-clause-reads_back : goal.returns-clause-reads_back
 returns-clause-reads_back c =
-    let n = outline_node c.args.outline.now in
-    let text : string_bytes c.from_utf8_unchecked.result ≡ compact_text n = returns-clause-text c in
-    ap tree_of text ∙ tree_of-compact_text n (IsSound-outline_node c.args.outline.now) c.requires
+    back c.append_outline.result _ (outline_node c.args.outline.now)
+    (tree_of-compact_text (outline_node c.args.outline.now) (IsSound-outline_node c.args.outline.now) c.requires) (returns-clause-text c)
