@@ -2,7 +2,8 @@
 use Prim.Native.String as native
 use Rattle.std.proofs.Common.{◌≡◌, ◌≤◌, ℕ, List, [], ◌∷◌, Option, Some, None, Ordering, Less, Equal, Greater, nat_cmp, codes, refl, ap, arith}
 use Rattle.std.proofs.Common.{unwrap_or, option_and_then, true, false, true≢false, String, Global, string_bytes, Vec, ◌++◌, ◌∙◌, sym, subst}
-use Rattle.std.proofs.Common.{map as map_list}
+use Rattle.std.proofs.Common.{map as map_list, ◌<◌, ◌+◌, take, length, get_or, ap₂}
+use Rattle.std.proofs.lemmas.List.{map-append, take_more}
 use Rattle.std.specs.Prelude.{not, MatchOption, IfSome, IfOk, Bool, Result, Ok, Err}
 use Rattle.std.specs.Cmp.Lexicographic.{slice_cmp}
 use Rattle.std.specs.Ordering.{match_ordering}
@@ -49,6 +50,16 @@ cut-takes (Some d) v =
 pub cut_to-levels : (depth : Option ℕ) (v : Node) → levels (cut_to depth v) ≤ levels v
 cut_to-levels None v = omega arith
 cut_to-levels (Some d) v = cut-levels d v
+
+-- ---- a walk over what is not cut
+
+-- two functions agree on one more of the items
+pub agree-next : {X : Type 0} (f g : X → Node) (i : ℕ) (xs : List X) (x : X) → i < length xs → x ≡ get_or xs i x
+    → map_list f (take i xs) ≡ map_list g (take i xs) → g x ≡ f x → map_list f (take (i + 1) xs) ≡ map_list g (take (i + 1) xs)
+agree-next f g i xs x less at before here =
+    let more : take (i + 1) xs ≡ take i xs ++ x ∷ [] = take_more xs i x less ∙ ap (λ y. take i xs ++ y ∷ []) (sym at) in
+    ap (map_list f) more ∙ (map-append f (take i xs) (x ∷ []) ∙ (ap₂ (λ a b. a ++ b ∷ []) before (sym here)
+    ∙ (sym (map-append g (take i xs) (x ∷ [])) ∙ ap (map_list g) (sym more))))
 
 -- ---- with a handle
 

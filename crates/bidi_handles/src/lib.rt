@@ -36,6 +36,7 @@ mod resolving;
 mod showing;
 mod size;
 mod values;
+mod within;
 
 pub use argument::Argument;
 pub use handle::{Ending, Handle, HeldValue, ThrownValue};

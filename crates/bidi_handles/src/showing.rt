@@ -12,6 +12,7 @@ ghost use Rattle.bidi_handles.specs.ValuesInHand.{held_tree};
 use crate::handle::HeldValue;
 use crate::holding::text_of;
 use crate::id::{IdKind, id_text};
+use crate::within::is_shown_whole;
 use bidi_shape::Shape;
 use bidi_tree::{JsUint, Outline, write_outline};
 use bidi_values::{Nested, RemotePlain, RemoteValue};
@@ -28,7 +29,7 @@ pub fn takes_handle(value: &RemoteValue) -> bool
 /// The text of a value, cut at this depth if there is one, and with this handle if there is one. The held value
 /// stays whole.
 ///
-/// A value that is not cut is not copied: its text is, which was made with it.
+/// A value that is shown whole is not copied: its text is, which was made with it.
 ///
 /// # Errors
 /// No memory: an allocation failed.
@@ -47,7 +48,7 @@ pub fn shown_text(
     // What is shown is a remote value, so it can be part of a result, and its text reads back.
     ensures remote { IfOk result (λ _. IsRemote (shown_as handle (cut_to (option_map (λ d. d.value) depth) (held_tree held.now)))) }
 {
-    if depth.is_none() {
+    if is_shown_whole(&held.value, depth) {
         if let Some(text) = whole_text(alloc, held, handle)? {
             return Ok(text);
         }
