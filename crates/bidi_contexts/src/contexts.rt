@@ -1,7 +1,7 @@
 //! The table of live contexts, in tree order. Only this file knows how they are kept; everyone else asks it.
 ghost use Rattle.std.specs.Prelude.{◌≡◌, ◌≤◌, ◌<◌, ◌^◌, ◌==◌, ℕ, suc, List, ◌∷◌, [], true, nat_eq, None};
 ghost use Rattle.std.specs.Prelude.{IfOk, OnOk, map, find, length, bytes_eq, is_none, option_map};
-ghost use Rattle.std.specs.List.{list_any};
+ghost use Rattle.std.specs.List.{list_any, remove_range};
 ghost use Rattle.std.specs.Option.{option_eq};
 ghost use Rattle.bidi_handles.specs.Ids.{id_of};
 ghost use Rattle.bidi_contexts.specs.Accepted.{AreAccepted};
@@ -181,7 +181,7 @@ impl Contexts {
         ensures { (past : List Act) → IsTableOf self.old past → AreAccepted (Removed number ∷ past) → IsTableOf self.new (Removed number ∷ past) }
     {
         if let Some((start, end)) = range_of(&self.live, number) {
-            self.live.drain(start..end);
+            take_out(&mut self.live, start, end);
         }
     }
 
@@ -255,6 +255,18 @@ impl Contexts {
         if let Some(place) = place_of(&self.live, number) {
             self.live[place].navigate(realm, to);
         }
+    }
+}
+
+// Takes a range of contexts out. What stands behind one context is moved at once, and behind several one by one.
+fn take_out(contexts: &mut Vec<Context>, start: usize, end: usize)
+    requires { (start < end) × (end ≤ length contexts.now.items) }
+    ensures { contexts.new.items ≡ remove_range contexts.old.items start end }
+{
+    if end - start == 1 {
+        contexts.remove(start);
+    } else {
+        contexts.drain(start..end);
     }
 }
 

@@ -7,7 +7,7 @@ use Rattle.bidi_contexts.proofs.contexts.Contexts.remove.Goals as goal
 
 pub returns-in-Some : goal.returns-in-Some
 returns-in-Some c = λ past table accepted. record {
-  rows = ap (map row_of) (c.drop-drain.ensures.items ∙ c.drain.ensures.kept)
+  rows = ap (map row_of) c.take_out.ensures
       ∙ removed-rows past c.args.number c.in-Some.start c.in-Some.end c.args.self.now.live.items c.deref.result.now accepted table.rows
       c.deref.ensures.value c.in-Some.ensures.0 c.in-Some.ensures.1;
   accepted = accepted;
