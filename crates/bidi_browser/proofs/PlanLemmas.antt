@@ -47,10 +47,10 @@ use Rattle.bidi_contexts.proofs.RowLemmas.{oldest-window}
 -- ---- what only looks
 
 -- its result, and nothing else; the tables stay
-pub kept-plans : (plan : Plan) (past : List Act) (moment : ℕ) (action : Action) (act : Act) (r : ResultData)
+pub kept-plans : (plan : Plan) (past : List Act) (moment : ℕ) (action : Action) (act : Act) (r : CommandResult)
     → is_asked action ≡ true → leaves_tables act ≡ true → outcome past action ≡ Ok act
-    → Replies (result_tree (Data r)) ∷ [] ≡ occurs past moment action act → plan.before.items ≡ []
-    → plan.result ≡ Some (Data r) → plan.after.items ≡ [] → plan.change.edit ≡ Keep → Plans (Ok plan) past moment action
+    → Replies (result_tree r) ∷ [] ≡ occurs past moment action act → plan.before.items ≡ []
+    → plan.result ≡ Some r → plan.after.items ≡ [] → plan.change.edit ≡ Keep → Plans (Ok plan) past moment action
 kept-plans plan past moment action act r asked leaves checked told before reply after change =
     (act, checked, rw (before, reply, after) told, rw (reply, asked) refl, rw change leaves, λ unasked. after)
 
@@ -58,7 +58,7 @@ kept-plans plan past moment action act r asked leaves checked told before reply 
 pub looked-plans : (plan : Plan) (past : List Act) (moment : ℕ) (action : Action) (r : ResultData)
     → is_asked action ≡ true → outcome past action ≡ Ok Looked → Replies (result_tree (Data r)) ∷ [] ≡ occurs past moment action Looked
     → plan.before.items ≡ [] → plan.result ≡ Some (Data r) → plan.after.items ≡ [] → plan.change.edit ≡ Keep → Plans (Ok plan) past moment action
-looked-plans plan past moment action r asked = kept-plans plan past moment action Looked r asked refl
+looked-plans plan past moment action r asked = kept-plans plan past moment action Looked (Data r) asked refl
 
 -- the context that is asked for
 pub root-found : (past : List Act) (id : List ℕ) (c : ℕ) (root : Option (List ℕ))
@@ -126,13 +126,17 @@ windows-flat see true (x ∷ xs) =
 pub result-well : (r : ResultData) (t : Node) → results.ghosts.payload.well r → result_tree (Data r) ≡ t → levels t ≤ 61 → IsWellResult (Data r)
 result-well r t well is few = (well, subst (λ u. levels u ≤ 61) (sym is) few)
 
--- a plan without events, with such a result
-pub told-well : (plan : Plan) (r : ResultData) → plan.before.items ≡ [] → plan.result ≡ Some (Data r) → plan.after.items ≡ [] → IsWellResult (Data r) → IsWellTold plan
-told-well plan r before reply after well = record {
+-- a plan without events, with a result of which a message can be made
+pub alone-well : (plan : Plan) (r : CommandResult) → plan.before.items ≡ [] → plan.result ≡ Some r → plan.after.items ≡ [] → IsWellResult r → IsWellTold plan
+alone-well plan r before reply after well = record {
   before = subst AreWell (sym before) tt;
   result = subst (λ o. IfSome o IsWellResult) (sym reply) well;
   after = subst AreWell (sym after) tt;
 }
+
+-- a plan without events, with such a result
+pub told-well : (plan : Plan) (r : ResultData) → plan.before.items ≡ [] → plan.result ≡ Some (Data r) → plan.after.items ≡ [] → IsWellResult (Data r) → IsWellTold plan
+told-well plan r = alone-well plan (Data r)
 
 -- ---- births
 

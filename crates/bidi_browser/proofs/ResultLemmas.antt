@@ -1,17 +1,20 @@
 -- The text of the result of a script, of the text of its value.
 use Rattle.std.proofs.Common.{◌≡◌, ◌∙◌, ◌≤◌, ℕ, List, [], ◌++◌, codes, Option, Some, None, refl, sym, ap, ap₂, subst, arith, append_assoc, zero-le, unwrap_or}
+use Rattle.std.proofs.Common.{◌∷◌, false, map as map_list}
 use Rattle.std.specs.Fmt.{digits}
 use Rattle.json.specs.Print.{escape_byte}
-use Rattle.bidi_tree.specs.Node.{Node, null, text, levels, IsSound, IsWhole, no_items}
+use Rattle.bidi_tree.specs.Node.{Node, null, text, levels, IsSound, ItemsAreSound, IsWhole, items_have_odd, no_items, no_members}
+use Rattle.bidi_tree.specs.View.{items_of}
 use Rattle.bidi_tree.specs.Text.{compact_text, tree_of}
 use Rattle.bidi_tree.proofs.RoundTrip.{tree_of-compact_text}
-use Rattle.bidi_shape.specs.Name.{remote_value, exception_details, stack_trace, stack_frame, evaluate_result}
+use Rattle.bidi_shape.specs.Name.{remote_value, exception_details, stack_trace, stack_frame, evaluate_result, user_context_info, get_user_contexts_result}
 use Rattle.bidi_shape.specs.Term as term
-use Rattle.bidi_shape.specs.Term.{required, exactly, js_uint, list_of, no_more, row, rule, closed}
-use Rattle.bidi_shape.specs.Fits.{Fits, fits_exactly, fits_text, fits_js_uint, fits_map, fits_list, fits_first, fits_second, fits_rule, no_row, no_item}
+use Rattle.bidi_shape.specs.Term.{required, exactly, js_uint, list_of, no_more, row, rule, closed, extensible}
+use Rattle.bidi_shape.specs.Fits.{Fits, fits_exactly, fits_text, fits_js_uint, fits_map, fits_list, fits_first, fits_second, fits_rule, no_row, no_item, an_item, AllFit}
 use Rattle.bidi_shape.proofs.FitsLemmas.{row_fits}
 use Rattle.bidi_methods.specs.Method.{result_of}
 use Rattle.bidi_methods.specs.declared.method.Method.{Method}
+use Rattle.bidi_methods.specs.declared.method.Method.TheVariants.{BrowserGetUserContexts}
 use Rattle.bidi_values.specs.Content.{content}
 use Rattle.bidi_values.specs.NestedLaws.{nested_shape}
 use Rattle.bidi_values.specs.RemoteView.{remote_tree}
@@ -23,6 +26,9 @@ use Rattle.bidi_handles.specs.Showing.{IsRemote}
 use Rattle.bidi_handles.specs.Values.{shown_as}
 use Rattle.bidi_handles.specs.declared.id.IdKind.TheVariants.{Handle}
 use Rattle.bidi_handles.proofs.ShowingLemmas.{cut_to-levels, with_member-levels}
+use Rattle.bidi_handles.specs.Maps.{◌being◌and◌, mapped, listed}
+use Rattle.bidi_contexts.specs.Users.{user_id, user_info}
+use Rattle.bidi_contexts.proofs.UserLemmas.{users-flat}
 use Rattle.bidi_browser.specs.Occurs.{exception_details as details}
 use Rattle.bidi_browser.specs.Results.{IsResultText}
 use Rattle.bidi_browser.specs.Runs.{success_tree, exception_tree}
@@ -119,6 +125,39 @@ pub exception-result : (method : Method) (s realm : List ℕ) (t : Node) → res
 exception-result method s realm t of_method shown few written =
     let fits = shown-fits t shown (omega (arith, few)) in
     (written, (((refl, (refl, tt)), ((refl, tt), (tt, tt))), (details-sound t shown.2, (tt, (tt, tt)))), (rw fits.1.0 refl, omega (arith, few)), subst (λ n. Fits (exception_tree (text realm) t) (rule n)) (sym of_method) (exception-fits realm t fits.0))
+
+-- ---- user contexts
+
+-- the result that tells of user contexts
+abbrev users_tree : List ℕ → Node
+users_tree us = mapped ("userContexts" being listed (map_list user_info us) and no_members)
+
+users-sound : (us : List ℕ) → ItemsAreSound (items_of (map_list user_info us))
+users-sound [] = tt
+users-sound (u ∷ us) = (((tt, tt), (tt, tt)), users-sound us)
+
+users-whole : (us : List ℕ) → items_have_odd (items_of (map_list user_info us)) ≡ false
+users-whole [] = refl
+users-whole (u ∷ us) = users-whole us
+
+user-fits : (u : ℕ) → Fits (user_info u) (rule user_context_info)
+user-fits u =
+    fits_rule _ user_context_info (fits_map _ _ extensible (row_fits _ (codes "userContext") required term.text no_more (fits_text (user_id u)) (no_row _)) (refl, zero-le))
+
+users-fit : (us : List ℕ) → AllFit (items_of (map_list user_info us)) (rule user_context_info)
+users-fit [] = no_item _
+users-fit (u ∷ us) = an_item _ _ _ (user-fits u) (users-fit us)
+
+pub users-result : (s us : List ℕ) (u : ℕ) → s ≡ compact_text (users_tree (u ∷ us)) → IsResultText BrowserGetUserContexts s (users_tree (u ∷ us))
+users-result s us u written =
+    let flat = users-flat (u ∷ us) in (
+      written,
+      ((tt, tt), (users-sound (u ∷ us), tt)),
+      (rw (users-whole (u ∷ us)) refl, omega (arith, flat)),
+      fits_rule _ get_user_contexts_result (fits_map _ _ extensible
+          (row_fits _ (codes "userContexts") required (list_of 1 (rule user_context_info)) no_more
+          (fits_list (items_of (map_list user_info (u ∷ us))) 1 (rule user_context_info) (omega arith) (users-fit (u ∷ us))) (no_row _)) (refl, zero-le)),
+    )
 
 -- ---- levels
 

@@ -18,16 +18,14 @@ ghost use Rattle.bidi_browser.specs.Stands.{StandsFor};
 ghost use Rattle.bidi_browser.specs.declared.command_result.CommandResult.TheVariants as CommandResult;
 
 use crate::browser::Browser;
-use crate::command_result::CommandResult;
+use crate::command_result::{CommandResult, ResultText};
 use crate::plan::{Change, Edit, Plan};
 use bidi_contexts::{Context, Contexts};
 use bidi_handles::Refusal;
 use bidi_methods::{Method, Payload, ResultData};
-use bidi_params::{
-    EmptyResult, ErrorCode, GetTreeParameters, GetTreeResult, GetUserContextsResult, Info,
-};
+use bidi_params::{EmptyResult, ErrorCode, GetTreeParameters, GetTreeResult, Info};
 use bidi_scripts::{GetRealmsParameters, GetRealmsResult, RealmInfo, RealmType};
-use bidi_shape::{Ext, OneOrMore, Shape};
+use bidi_shape::{Ext, Shape};
 use std::alloc::{AllocError, Global};
 use std::slice::from_ref;
 
@@ -210,12 +208,12 @@ pub(crate) fn plan_get_users(browser: &Browser) -> Result<Plan, Refusal>
     ensures well { IsWellPlanned result }
     ensures of_method { HasResultOf Method.BrowserGetUserContexts result }
 {
-    let items = browser.users.infos(browser.alloc)?;
-    let result = ResultData::BrowserGetUserContexts(GetUserContextsResult {
-        user_contexts: OneOrMore { items },
-        ext: Ext::empty(browser.alloc),
-    });
-    Ok(looked(browser.alloc, result))
+    let text = browser.users.told(browser.alloc)?;
+    let result = ResultText {
+        method: Method::BrowserGetUserContexts,
+        text,
+    };
+    Ok(answered(browser.alloc, CommandResult::Text(result), Edit::Keep))
 }
 
 /// The plan of a command that changes nothing: its result alone.

@@ -18,6 +18,7 @@ pub mod ForestLemmas
 pub mod TreeLemmas
 pub mod OrderLemmas
 pub mod UserLemmas
+pub mod UserTextLemmas
 pub mod EditLemmas
 pub mod SubtreeLemmas
 pub mod RowLemmas

@@ -1,5 +1,5 @@
 -- User contexts: what each act makes of those that live.
-use Rattle.std.proofs.Common.{◌≡◌, ◌∙◌, ◌≤◌, ◌<◌, ◌^◌, ℕ, zero, suc, Bool, true, false, List, [], ◌∷◌, ◌++◌, map, length, cond, refl, sym, ap, arith}
+use Rattle.std.proofs.Common.{◌≡◌, ◌∙◌, ◌≤◌, ◌<◌, ◌^◌, ℕ, zero, suc, Bool, true, false, List, [], ◌∷◌, ◌++◌, map, cond, refl, sym, ap, arith}
 use Rattle.std.specs.Prelude.{◌==◌, ◌&&◌, ◌||◌, not, filter, find, bytes_eq, codes, Option, Some, IfSome, option_map, option_and_then}
 use Rattle.std.proofs.lemmas.Bool.Decides.{nat_tests}
 use Rattle.std.proofs.lemmas.List.Elements.{filter-append}
@@ -96,8 +96,3 @@ user-flat u = refl
 pub users-flat : (us : List ℕ) → items_levels (items_of (map user_info us)) ≤ 1
 users-flat [] = omega arith
 users-flat (u ∷ us) = let flat = user-flat u in let rest = users-flat us in omega (arith, flat, rest)
-
--- what is seen as some has some
-pub some-seen : {A B : Type 0} (f : A → B) (xs : List A) (y : B) (ys : List B) → map f xs ≡ y ∷ ys → 1 ≤ length xs
-some-seen f [] y ys same = absurd (cc)
-some-seen f (x ∷ xs) y ys same = omega arith

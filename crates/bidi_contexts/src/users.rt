@@ -1,6 +1,8 @@
 //! The live user contexts, and what is told of them.
-ghost use Rattle.std.specs.Prelude.{◌≡◌, ◌<◌, ◌^◌, ◌==◌, ◌++◌, ℕ, List, [], ◌∷◌, map, find, option_map, IfOk, OnOk, IfSome, string_bytes};
-ghost use Rattle.std.specs.List.{AllByRecursion};
+ghost use Rattle.std.specs.Prelude.{◌≡◌, ◌<◌, ◌^◌, ◌==◌, ◌++◌, ℕ, List, [], ◌∷◌, map, find, flat_map, option_map, IfOk, OnOk, IfSome, string_bytes};
+ghost use Rattle.bidi_tree.specs.Node.{no_members};
+ghost use Rattle.bidi_tree.specs.Text.{compact_text};
+ghost use Rattle.bidi_handles.specs.Maps.{◌being◌and◌, mapped, listed};
 ghost use Rattle.bidi_contexts.specs.Users.{user_id, user_info, user_named};
 
 use crate::limits::NO_ID;
@@ -11,6 +13,9 @@ use std::alloc::{AllocError, Global};
 
 /// How many user contexts can be live at once besides the default one.
 const MOST_USERS: usize = 64;
+
+/// The room for what is told of a user context.
+const USER_ROOM: usize = 64;
 
 /// The number of the default user context, which is always live.
 pub const DEFAULT_USER: u64 = 0;
@@ -77,17 +82,18 @@ impl Users {
         }
     }
 
-    /// What is told of all of them, the default one first.
-    pub fn infos(&self, alloc: Global) -> Result<Vec<UserContextInfo>, AllocError>
-        // Their trees are those of the default user context and of each other live one, by creation.
-        ensures tree { IfOk result (λ all. map ⟦<UserContextInfo as Shape>⟧.shape.tree_of all.items ≡ map user_info (0 ∷ numbers_in self.now)) }
-        // Each is well formed.
-        ensures well { IfOk result (λ all. AllByRecursion (λ i. ⟦<UserContextInfo as Shape>⟧.shape.well i) all.items) }
+    /// The text of what is told of all of them, the default one first: `{"userContexts":[..]}`. Makes an id for each.
+    pub fn told(&self, alloc: Global) -> Result<String, AllocError>
+        // It is the text of the object whose one member is the list of the default user context and of each other live one, by creation.
+        ensures { IfOk result (λ s. string_bytes s
+            ≡ compact_text (mapped ("userContexts" being listed (map user_info (0 ∷ numbers_in self.now)) and no_members))) }
     {
-        let mut all = Vec::new(alloc);
-        all.push(user_info(alloc, DEFAULT_USER)?)?;
-        push_infos(alloc, &self.live, &mut all)?;
-        Ok(all)
+        let room = self.live.len().saturating_mul(USER_ROOM);
+        let mut text = String::with_capacity(alloc, room.saturating_add(USER_ROOM))?;
+        text.push_str("{\"userContexts\":[{\"userContext\":\"default\"}")?;
+        push_told(alloc, &self.live, &mut text)?;
+        text.push_str("]}")?;
+        Ok(text)
     }
 
     /// Makes room for one more.
@@ -134,19 +140,15 @@ fn numbered(users: &[User], number: u64) -> Option<u64>
         .map(|user| user.number)
 }
 
-// Adds what is told of each of these.
-fn push_infos(
-    alloc: Global,
-    users: &[User],
-    all: &mut Vec<UserContextInfo>,
-) -> Result<(), AllocError>
-    ensures tree { IfOk result (λ _. map ⟦<UserContextInfo as Shape>⟧.shape.tree_of all.new.items
-        ≡ map ⟦<UserContextInfo as Shape>⟧.shape.tree_of all.old.items ++ map user_info (map (λ u. u.number) users.now)) }
-    ensures well { IfOk result (λ _. AllByRecursion (λ i. ⟦<UserContextInfo as Shape>⟧.shape.well i) all.old.items
-        → AllByRecursion (λ i. ⟦<UserContextInfo as Shape>⟧.shape.well i) all.new.items) }
+// Adds the text of what is told of each of these, behind a comma.
+fn push_told(alloc: Global, users: &[User], text: &mut String) -> Result<(), AllocError>
+    ensures { IfOk result (λ _. string_bytes text.new ≡ string_bytes text.old ++ flat_map (λ u. 44 ∷ compact_text (user_info u.number)) users.now) }
 {
     for user in users {
-        all.push(user_info(alloc, user.number)?)?;
+        let id = user_text(alloc, user.number)?;
+        text.push_str(",{\"userContext\":\"")?;
+        text.push_str(&id)?;
+        text.push_str("\"}")?;
     }
     Ok(())
 }

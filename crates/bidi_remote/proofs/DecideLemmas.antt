@@ -1,15 +1,24 @@
 -- What a command comes to, by the tables and by the past.
 use Rattle.std.proofs.Common.{◌≡◌, ◌∙◌, ℕ, Bool, true, false, not, ◌&&◌, List, [], ◌∷◌, ◌++◌, map, length}
 use Rattle.std.proofs.Common.{Option, Some, unwrap_or, Result, Ok, Err, refl, sym, ap, ap₂, subst}
-use Rattle.std.specs.Prelude.{◌==◌, filter, find, nat_lt}
+use Rattle.std.specs.Prelude.{◌==◌, filter, find, nat_lt, codes, if◌then◌else◌}
+use Rattle.std.proofs.Common.{zero-le, arith}
 use Rattle.std.specs.List.{list_all, AllByRecursion, items_where_true}
 use Rattle.std.proofs.lemmas.List.{length-map, map-append}
 use Rattle.std.proofs.lemmas.List.Elements.{filter-append}
+use Rattle.bidi_tree.specs.Text.{compact_text}
+use Rattle.bidi_shape.specs.Name as name
+use Rattle.bidi_shape.specs.Term as term
+use Rattle.bidi_shape.specs.Term.{required, no_more, rule, extensible}
+use Rattle.bidi_shape.specs.Fits.{Fits, fits_bool, fits_text, fits_map, fits_rule, no_row}
+use Rattle.bidi_shape.proofs.FitsLemmas.{row_fits}
+use Rattle.bidi_methods.specs.declared.method.Method.TheVariants.{SessionStatus}
+use Rattle.bidi_messages.specs.Message.{status_tree}
+use Rattle.bidi_browser.specs.Results.{IsResultText}
 use Rattle.bidi_params.specs.declared.error_code.ErrorCode.{ErrorCode}
 use Rattle.bidi_params.specs.declared.error_code.ErrorCode.TheVariants.{InvalidArgument, UnknownError}
 use Rattle.bidi_methods.specs.declared.event_data.EventName.{EventName}
 use Rattle.bidi_methods.specs.declared.event_data.EventName.TheVariants.{EntryAdded}
-use Rattle.bidi_methods.specs.declared.result_data.ResultData.{ResultData}
 use Rattle.bidi_handles.specs.Checks.{◌>>=◌, need, found}
 use Rattle.bidi_contexts.specs.declared.occurrence.Top.{Top}
 use Rattle.bidi_contexts.specs.Acts.{Act, Looked}
@@ -45,7 +54,7 @@ use Rattle.bidi_active.specs.SessionRows.{row_in, begun}
 use Rattle.bidi_sessions.specs.SubscriptionRows.{any_covers, any_global, numbers_named}
 use Rattle.bidi_active.specs.News.{is_new}
 use Rattle.bidi_browser.specs.View.{result_tree}
-use Rattle.bidi_browser.specs.declared.command_result.CommandResult.TheVariants.{Data}
+use Rattle.bidi_browser.specs.declared.command_result.CommandResult.{CommandResult}
 use Rattle.bidi_remote.specs.State.Turns.{Decides, IsMade, IsOfSessions, deed_of, announced_by}
 use Rattle.bidi_sessions.proofs.ListLemmas.{filter-same, all-same}
 use Rattle.bidi_remote.proofs.PlaceLemmas.{waiting-places, waiting-events, new-written}
@@ -65,10 +74,10 @@ made-of_sessions (Cancel s ns) past act ours = tt
 made-of_sessions (Dismiss s es) past act ours = tt
 
 module _ (turn : Turn) (past : List Deed) (asker : Asker) (asked : Command) (answer : Result Deed ErrorCode) (change : Change)
-    (r : ResultData) (ours : IsOfSessions change)
+    (r : CommandResult) (ours : IsOfSessions change)
     (same : turn.change ≡ change) (before : turn.telling.before.items ≡ [])
-    (reply : turn.telling.reply ≡ Some (record { to = asker; outcome = Data r })) (after : turn.telling.after.items ≡ [])
-    (is : answer ≡ Ok (deed_of change Looked)) (told : Replies (result_tree (Data r)) ∷ [] ≡ items past (action_in (Some asked)) (deed_of change Looked)) where
+    (reply : turn.telling.reply ≡ Some (record { to = asker; outcome = r })) (after : turn.telling.after.items ≡ [])
+    (is : answer ≡ Ok (deed_of change Looked)) (told : Replies (result_tree r) ∷ [] ≡ items past (action_in (Some asked)) (deed_of change Looked)) where
   -- a change that is announced, and then replied to
   pub announced-decides : written_in turn.telling.announced.items ≡ map written (announced_by past (deed_of change Looked))
       → AreMessages (written_in turn.telling.announced.items) → Decides (Ok turn) past asker asked answer
@@ -104,6 +113,20 @@ found-active t past s a active = ap (find (λ r. r.number == s)) a.sessions ∙ 
 pub row-active : (t : State) (past : List Deed) (s : ℕ)
     → AgreeWith t past → is_active past s ≡ true → row_in s (in_hand.rows_in t.sessions) ≡ session_row past s
 row-active t past s a active = ap (λ o. unwrap_or o (begun s)) (found-active t past s a active)
+
+-- ---- `session.status`
+
+status-fits : (ready : Bool) (message : List ℕ) → Fits (status_tree ready message) (rule name.status_result)
+status-fits ready message =
+    fits_rule _ name.status_result (fits_map _ _ extensible
+    (row_fits _ (codes "ready") required term.bool _ (fits_bool ready)
+    (row_fits _ (codes "message") required term.text no_more (fits_text message) (no_row _))) (refl, zero-le))
+
+-- its text is that of a result
+pub status-result : (s : List ℕ) (ready : Bool) → s ≡ compact_text (if ready then status_tree true (codes "ready") else status_tree false (codes "full"))
+    → IsResultText SessionStatus s (if ready then status_tree true (codes "ready") else status_tree false (codes "full"))
+status-result s true written = (written, (((refl, tt), (tt, tt)), (tt, (tt, tt))), (refl, omega arith), status-fits true (codes "ready"))
+status-result s false written = (written, (((refl, tt), (tt, tt)), (tt, (tt, tt))), (refl, omega arith), status-fits false (codes "full"))
 
 -- ---- `session.new`
 

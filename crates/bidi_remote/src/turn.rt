@@ -1,11 +1,10 @@
 //! What a command or a step of a page changes, and what is sent for it.
 ghost use Rattle.std.specs.Option.{option_zip};
 ghost use Rattle.std.specs.Prelude.{◌≡◌, Some, [], option_map};
-ghost use Rattle.bidi_browser.specs.declared.command_result.CommandResult.TheVariants as CommandResult;
 
 use bidi_active::{EventText, LogBuffer};
 use bidi_browser::{Change as BrowserChange, CommandResult, Occurrence, Plan};
-use bidi_messages::{EventName, ResultData};
+use bidi_messages::EventName;
 use bidi_sessions::Scope;
 use bidi_tree::JsUint;
 use std::alloc::Global;
@@ -73,11 +72,11 @@ pub(crate) struct Turn {
 
 impl Turn {
     /// A change for which a reply alone is sent.
-    pub(crate) fn replied(alloc: Global, change: Change, to: Asker, outcome: ResultData) -> Turn
+    pub(crate) fn replied(alloc: Global, change: Change, to: Asker, outcome: CommandResult) -> Turn
         ensures change { result.change ≡ change }
         ensures announced { result.telling.announced.items ≡ [] }
         ensures before { result.telling.before.items ≡ [] }
-        ensures reply { result.telling.reply ≡ Some (record { to = to; outcome = CommandResult.Data outcome }) }
+        ensures reply { result.telling.reply ≡ Some (record { to = to; outcome = outcome }) }
         ensures after { result.telling.after.items ≡ [] }
     {
         Turn::announced(alloc, change, Vec::new(alloc), to, outcome)
@@ -89,12 +88,12 @@ impl Turn {
         change: Change,
         announced: Vec<Rc<EventText>>,
         to: Asker,
-        outcome: ResultData,
+        outcome: CommandResult,
     ) -> Turn
         ensures change { result.change ≡ change }
         ensures announced { result.telling.announced ≡ announced }
         ensures before { result.telling.before.items ≡ [] }
-        ensures reply { result.telling.reply ≡ Some (record { to = to; outcome = CommandResult.Data outcome }) }
+        ensures reply { result.telling.reply ≡ Some (record { to = to; outcome = outcome }) }
         ensures after { result.telling.after.items ≡ [] }
     {
         Turn {
@@ -102,10 +101,7 @@ impl Turn {
             telling: Telling {
                 announced,
                 before: Vec::new(alloc),
-                reply: Some(Reply {
-                    to,
-                    outcome: CommandResult::Data(outcome),
-                }),
+                reply: Some(Reply { to, outcome }),
                 after: Vec::new(alloc),
             },
         }

@@ -20,7 +20,7 @@ mod subscriptions;
 pub use capabilities::match_capabilities;
 pub use connections::{Attachment, Connections};
 pub use event_names::all_named;
-pub use results::{end_result, new_result, status_result, subscribe_result, unsubscribe_result};
+pub use results::{end_result, new_result, status_text, subscribe_result, unsubscribe_result};
 pub use step::{PageStep, Sent, SentText, Step};
 pub use subscription_table::Subscriptions;
 pub use subscriptions::{Scope, Subscription, covers, distinct, is_among, numbers_of};

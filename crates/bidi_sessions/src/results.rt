@@ -1,6 +1,7 @@
 //! The results of the commands of the session module.
-ghost use Rattle.std.specs.Prelude.{◌≡◌, ◌≤◌, IfOk, if◌then◌else◌, true, false, codes};
-ghost use Rattle.bidi_tree.specs.Node.{levels, text, no_members};
+ghost use Rattle.std.specs.Prelude.{◌≡◌, IfOk, if◌then◌else◌, true, false, codes, string_bytes};
+ghost use Rattle.bidi_tree.specs.Node.{text, no_members};
+ghost use Rattle.bidi_tree.specs.Text.{compact_text};
 ghost use Rattle.bidi_handles.specs.declared.id.IdKind.TheVariants.{Session};
 ghost use Rattle.bidi_handles.specs.Ids.{id_of};
 ghost use Rattle.bidi_handles.specs.Maps.{◌being◌and◌, mapped, nothing};
@@ -13,30 +14,24 @@ use crate::capabilities::{BROWSER_NAME, BROWSER_VERSION, PLATFORM_NAME};
 use bidi_handles::{IdKind, id_text};
 use bidi_messages::{Method, Payload, ResultData};
 use bidi_params::session::NewResult;
-use bidi_params::{Capabilities, EmptyResult, StatusResult, SubscribeResult};
+use bidi_params::{Capabilities, EmptyResult, SubscribeResult};
 use bidi_shape::{Ext, Shape};
 use std::alloc::{AllocError, Global};
 
-/// The result of `session.status`. The message is `ready` if a session can be made, and `full` if not.
+/// The text of the result of `session.status`. The message is `ready` if a session can be made, and `full` if not.
 ///
 /// # Errors
 /// No memory: an allocation failed.
-pub fn status_result(alloc: Global, is_ready: bool) -> Result<ResultData, AllocError>
-    // The result says whether a session can be made, with the message of that case.
-    ensures tree { IfOk result (λ r. result_tree r ≡ (if is_ready then status_tree true (codes "ready") else status_tree false (codes "full"))) }
-    // A message can be made of the result.
-    ensures well { IfOk result ResultIsWell }
-    // The result is nested at most 61 levels deep.
-    ensures small { IfOk result (λ r. levels (result_tree r) ≤ 61) }
-    // The result is one of `session.status`.
-    ensures of_method { IfOk result (λ r. result_method r ≡ Method.SessionStatus) }
+pub fn status_text(alloc: Global, is_ready: bool) -> Result<String, AllocError>
+    // The text says whether a session can be made, with the message of that case.
+    ensures { IfOk result (λ s. string_bytes s
+        ≡ compact_text (if is_ready then status_tree true (codes "ready") else status_tree false (codes "full"))) }
 {
-    let message = if is_ready { "ready" } else { "full" };
-    Ok(ResultData::SessionStatus(StatusResult {
-        ready: is_ready,
-        message: String::from_str(alloc, message)?,
-        ext: Ext::empty(alloc),
-    }))
+    if is_ready {
+        String::from_str(alloc, "{\"message\":\"ready\",\"ready\":true}")
+    } else {
+        String::from_str(alloc, "{\"message\":\"full\",\"ready\":false}")
+    }
 }
 
 /// The result of `session.new`: the id of the session of this number, and the capabilities of the browser.

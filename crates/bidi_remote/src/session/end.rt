@@ -5,7 +5,7 @@ ghost use Rattle.bidi_remote.specs.Machine.History.{Deed, Ended};
 ghost use Rattle.bidi_remote.specs.State.Turns.{Decides, HasResultOf, IsWellDecided};
 
 use crate::turn::{Asker, Change, Turn};
-use bidi_browser::Refusal;
+use bidi_browser::{CommandResult, Refusal};
 use bidi_messages::Method;
 use bidi_sessions::end_result;
 use std::alloc::Global;
@@ -16,5 +16,6 @@ pub(crate) fn decide_end(alloc: Global, asker: Asker, session: u32) -> Result<Tu
     ensures well { IsWellDecided result }
     ensures of_method { HasResultOf Method.SessionEnd result }
 {
-    Ok(Turn::replied(alloc, Change::End(session), asker, end_result(alloc)))
+    let reply = CommandResult::Data(end_result(alloc));
+    Ok(Turn::replied(alloc, Change::End(session), asker, reply))
 }

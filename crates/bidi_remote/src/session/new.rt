@@ -11,7 +11,7 @@ ghost use Rattle.bidi_remote.specs.State.Turns.{Decides, HasResultOf, IsWellDeci
 use crate::state::State;
 use crate::turn::{Asker, Change, Turn};
 use bidi_active::LogBuffer;
-use bidi_browser::Refusal;
+use bidi_browser::{CommandResult, Refusal};
 use bidi_messages::{ErrorCode, Method};
 use bidi_params::session::NewParameters;
 use bidi_sessions::{match_capabilities, new_result};
@@ -45,7 +45,7 @@ pub(crate) fn decide_new(
         return Err(Refusal::Code(ErrorCode::SessionNotCreated));
     }
     let missed = LogBuffer::new(alloc)?;
-    let reply = new_result(alloc, state.sessions.next())?;
+    let reply = CommandResult::Data(new_result(alloc, state.sessions.next())?);
     let change = Change::Begin(asker.conn, missed);
     Ok(Turn::replied(alloc, change, asker, reply))
 }

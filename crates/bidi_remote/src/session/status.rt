@@ -7,9 +7,9 @@ ghost use Rattle.bidi_remote.specs.State.Turns.{Decides, HasResultOf, IsWellDeci
 
 use crate::state::State;
 use crate::turn::{Asker, Change, Turn};
-use bidi_browser::Refusal;
+use bidi_browser::{CommandResult, Refusal, ResultText};
 use bidi_messages::Method;
-use bidi_sessions::status_result;
+use bidi_sessions::status_text;
 use std::alloc::Global;
 
 /// Decides `session.status`, which tells whether one more session can be made.
@@ -21,6 +21,11 @@ pub(crate) fn decide_status(alloc: Global, state: &State, asker: Asker) -> Resul
     ensures well { IsWellDecided result }
     ensures of_method { HasResultOf Method.SessionStatus result }
 {
-    let reply = status_result(alloc, state.sessions.is_ready())?;
+    let text = status_text(alloc, state.sessions.is_ready())?;
+    let result = ResultText {
+        method: Method::SessionStatus,
+        text,
+    };
+    let reply = CommandResult::Text(result);
     Ok(Turn::replied(alloc, Change::Nothing, asker, reply))
 }

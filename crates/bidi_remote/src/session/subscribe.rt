@@ -26,7 +26,7 @@ use crate::event_texts::event_texts;
 use crate::state::State;
 use crate::turn::{Asker, Change, Turn};
 use bidi_active::{EventText, Session, is_new, may_be_new, may_tell_what_exists};
-use bidi_browser::{Browser, Refusal};
+use bidi_browser::{Browser, CommandResult, Refusal};
 use bidi_messages::{ErrorCode, EventName, Method, Payload};
 use bidi_params::SubscribeParameters;
 use bidi_sessions::{Scope, Subscriptions, all_named, subscribe_result};
@@ -73,13 +73,13 @@ pub(crate) fn decide_subscribe(
         return Err(Refusal::Code(ErrorCode::UnknownError));
     }
     let announced = newly_enabled(alloc, state, own, &events, &scope)?;
-    let reply = subscribe_result(alloc, session, own.next_subscription())?;
+    let result = subscribe_result(alloc, session, own.next_subscription())?;
     Ok(Turn::announced(
         alloc,
         Change::Subscribe(session, events, scope),
         announced,
         asker,
-        reply,
+        CommandResult::Data(result),
     ))
 }
 

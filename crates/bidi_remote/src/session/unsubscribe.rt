@@ -11,7 +11,7 @@ ghost use Rattle.bidi_remote.specs.State.Turns.{Decides, HasResultOf, IsWellDeci
 
 use crate::state::State;
 use crate::turn::{Asker, Change, Turn};
-use bidi_browser::Refusal;
+use bidi_browser::{CommandResult, Refusal};
 use bidi_messages::{ErrorCode, Method};
 use bidi_params::UnsubscribeParameters;
 use bidi_sessions::{all_named, numbers_of, unsubscribe_result};
@@ -44,7 +44,8 @@ pub(crate) fn decide_unsubscribe(
             end_by_events(alloc, state, session, &by_events.events.items)?
         }
     };
-    Ok(Turn::replied(alloc, change, asker, unsubscribe_result(alloc)))
+    let reply = CommandResult::Data(unsubscribe_result(alloc));
+    Ok(Turn::replied(alloc, change, asker, reply))
 }
 
 // The change that ends the subscriptions of these ids.

@@ -1,34 +1,26 @@
-use Rattle.std.proofs.Common.{◌∙◌, ◌≤◌, ◌∷◌, [], map, ap, sym, subst, refl, arith}
-use Rattle.bidi_tree.specs.Node.{no_members, items_levels}
-use Rattle.bidi_tree.specs.View.{items_of}
-use Rattle.bidi_shape.specs.ValueLaws.{others_of}
-use Rattle.bidi_params.specs.contracts.browser.UserContextInfoShape.TheImpl.{ghosts}
-use Rattle.bidi_methods.specs.declared.result_data.ResultData.TheVariants.{BrowserGetUserContexts}
+use Rattle.std.proofs.Common.{◌∙◌, ◌∷◌, [], map, string_bytes, ap, refl}
+use Rattle.bidi_tree.specs.Node.{no_members}
+use Rattle.bidi_methods.specs.declared.method.Method.TheVariants.{BrowserGetUserContexts}
 use Rattle.bidi_handles.specs.Maps.{◌being◌and◌, mapped, listed}
+use Rattle.bidi_contexts.specs.Acts.{Looked}
 use Rattle.bidi_contexts.specs.Actions.{GetUserContexts}
-use Rattle.bidi_browser.specs.Occurs.{Replies}
 use Rattle.bidi_contexts.specs.Users.{user_info}
-use Rattle.bidi_contexts.proofs.InfoLemmas.{none-further}
-use Rattle.bidi_browser.proofs.PlanLemmas.{looked-plans, told-well, result-well}
-use Rattle.bidi_contexts.proofs.UserLemmas.{users-flat, some-seen}
+use Rattle.bidi_browser.specs.Occurs.{Replies}
+use Rattle.bidi_browser.specs.declared.command_result.CommandResult.TheVariants.{Text}
+use Rattle.bidi_browser.proofs.PlanLemmas.{kept-plans, alone-well}
+use Rattle.bidi_browser.proofs.ResultLemmas.{read-back, users-result}
 use Rattle.bidi_browser.proofs.looking.plan_get_users.Goals as goal
 
 pub returns-clause-plans : goal.returns-clause-plans
 returns-clause-plans c = λ past moment stands.
-    let told = c.in_ok-items.ensures.tree ∙ ap (λ us. map user_info (0 ∷ us)) stands.users.live in
-    looked-plans c.looked.result past moment GetUserContexts _ refl refl
-    (rw (c.empty.ensures) (ap (λ ts. Replies (mapped ("userContexts" being listed ts and no_members)) ∷ []) told))
-    c.looked.ensures.before c.looked.ensures.outcome c.looked.ensures.after c.looked.ensures.change
+    let written = users-result (string_bytes c.in_ok-text.text) (map (λ u. u.number) c.args.browser.now.users.live.items) 0 c.in_ok-text.ensures in
+    let told = (read-back BrowserGetUserContexts (string_bytes c.in_ok-text.text) _ written).0 in
+    kept-plans c.answered.result past moment GetUserContexts Looked (Text (record { method = BrowserGetUserContexts; text = c.in_ok-text.text })) refl refl refl
+    (ap (λ t. Replies t ∷ []) (told ∙ ap (λ us. mapped ("userContexts" being listed (map user_info (0 ∷ us)) and no_members)) stands.users.live))
+    c.answered.ensures.before c.answered.ensures.outcome c.answered.ensures.after c.answered.ensures.change
 
 pub returns-clause-well : goal.returns-clause-well
 returns-clause-well c =
-    let items = c.in_ok-items.items in
-    let flat : items_levels (items_of (map ghosts.shape.tree_of items.items)) ≤ 1 =
-    subst (λ ts. items_levels (items_of ts) ≤ 1) (sym c.in_ok-items.ensures.tree)
-    (users-flat (0 ∷ map (λ u. u.number) c.args.browser.now.users.live.items)) in
-    told-well c.looked.result _ c.looked.ensures.before c.looked.ensures.outcome c.looked.ensures.after
-    (result-well (BrowserGetUserContexts (record { user_contexts = record { items = items }; ext = c.empty.result }))
-    (mapped ("userContexts" being listed (map ghosts.shape.tree_of items.items) and no_members)) (
-      ((some-seen ghosts.shape.tree_of items.items _ _ c.in_ok-items.ensures.tree, c.in_ok-items.ensures.well), tt),
-      none-further _ (others_of c.empty.result) c.empty.ensures,
-    ) (rw (c.empty.ensures) refl) (omega (arith, flat)))
+    let written = users-result (string_bytes c.in_ok-text.text) (map (λ u. u.number) c.args.browser.now.users.live.items) 0 c.in_ok-text.ensures in
+    alone-well c.answered.result (Text (record { method = BrowserGetUserContexts; text = c.in_ok-text.text })) c.answered.ensures.before
+    c.answered.ensures.outcome c.answered.ensures.after (read-back BrowserGetUserContexts (string_bytes c.in_ok-text.text) _ written).1

@@ -4,6 +4,7 @@ use Rattle.bidi_handles.specs.declared.id.IdKind.TheVariants.{Session}
 use Rattle.bidi_handles.specs.Ids.{id_of}
 use Rattle.bidi_handles.specs.Maps.{◌being◌and◌, mapped}
 use Rattle.bidi_browser.specs.Occurs.{Replies}
+use Rattle.bidi_browser.specs.declared.command_result.CommandResult.TheVariants.{Data}
 use Rattle.bidi_params.specs.contracts.session.capabilities.NewParametersShape.TheImpl.{ghosts}
 use Rattle.bidi_remote.specs.declared.turn.Change.TheVariants.{Begin}
 use Rattle.bidi_sessions.specs.Capabilities.{capabilities, request_of}
@@ -18,10 +19,10 @@ returns-clause-ok c = λ past a few.
     let request = request_of (ghosts.shape.tree_of c.args.params.now) in
     let made = a.made in
     let next : c.next.result ≡ next_session past = let n = c.next.ensures (omega (arith, made, few)) in omega (arith, n, made) in
-    replied-decides c.replied.result past c.args.asker (New request) _ (Begin conn c.in_ok-missed.missed) c.in_ok-reply.reply c.in_ok-missed.ensures
+    replied-decides c.replied.result past c.args.asker (New request) _ (Begin conn c.in_ok-missed.missed) (Data c.in_ok-new_result.field-0) c.in_ok-missed.ensures
     c.replied.ensures.change c.replied.ensures.before c.replied.ensures.reply c.replied.ensures.after
     (new-began past conn.value request c.match_capabilities.result c.match_capabilities.ensures c.in_default.not-Err
     (sym c.if-not-is_ready.false ∙ is_ready-rows c.args.state.now past c.is_ready.result a c.is_ready.ensures))
-    (ap (λ t. Replies t ∷ []) (c.in_ok-reply.ensures.tree
+    (ap (λ t. Replies t ∷ []) (c.in_ok-new_result.ensures.tree
     ∙ ap (λ n. mapped ("capabilities" being capabilities and "sessionId" being text (id_of Session n) and no_members)) next))
     c.replied.ensures.announced refl

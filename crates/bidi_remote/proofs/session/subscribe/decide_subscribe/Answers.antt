@@ -3,6 +3,7 @@ use Rattle.std.specs.Prelude.{find}
 use Rattle.std.specs.Borrow.{Bor}
 use Rattle.std.proofs.lemmas.Bool.Decides.{nat_tests}
 use Rattle.bidi_browser.specs.Occurs.{Replies}
+use Rattle.bidi_browser.specs.declared.command_result.CommandResult.TheVariants.{Data}
 use Rattle.bidi_remote.specs.declared.turn.Change.TheVariants as change
 use Rattle.bidi_remote.specs.Machine.History.{Deed, Subscribed, acts}
 use Rattle.bidi_remote.specs.Machine.Sessions.{is_active}
@@ -61,13 +62,13 @@ returns-clause-ok c = λ past a active few.
     let next : c.next_subscription.result ≡ next_subscription past s =
     let n = c.next_subscription.ensures (omega (arith, made, few)) in omega (arith, n, made) in
     let newly = c.in_ok-announced.ensures past s a active row in
-    announced-decides c.announced.result past c.args.asker (subscribe_asked c.args.params.now) _ (change.Subscribe s es scope) c.in_ok-reply.reply tt
+    announced-decides c.announced.result past c.args.asker (subscribe_asked c.args.params.now) _ (change.Subscribe s es scope) (Data c.in_ok-result.result) tt
     c.announced.ensures.change c.announced.ensures.before c.announced.ensures.reply c.announced.ensures.after
     (subscribe-checked past s (length held) (texts c.args.params.now.events.items.items)
     (option_map (λ l. texts l.items.items) c.args.params.now.contexts) (option_map (λ l. texts l.items.items) c.args.params.now.user_contexts)
     es.items (scope_of scope) true (ap (λ xs. all_named (texts xs)) (sym c.deref.ensures.value) ∙ c.in_ok-events.ensures)
     (c.in_ok-scope.ensures (acts past) a.browser) (held-length past s held rows) room)
-    (ap (λ t. Replies t ∷ []) (c.in_ok-reply.ensures.tree ∙ ap (subscription_tree s) next))
+    (ap (λ t. Replies t ∷ []) (c.in_ok-result.ensures.tree ∙ ap (subscription_tree s) next))
     (ap (λ v. written_in v.items) c.announced.ensures.announced
     ∙ (newly.0 ∙ ap (λ events. map written (announcements past (Subscribed s events (scope_of scope)) s)) c.deref-2.ensures.value))
     (subst (λ v. AreMessages (written_in v.items)) (sym c.announced.ensures.announced) newly.1)
