@@ -232,22 +232,22 @@ fn push_wanted(
 /// What the ledger tells.
 fn found(alloc: Global, ledger: Ledger) -> Result<String, Fail> {
     let mut told = String::new(alloc);
-    for account in ledger.accounts {
+    for account in &ledger.accounts {
         let (events, unsent) = (account.events.len(), account.unsent);
         write!(
             told,
             "link {}, {events} events, {unsent} unsent\n",
             account.link.value
         )?;
-        for entry in account.commands {
+        for entry in &account.commands {
             let (id, method) = (entry.id.value, entry.method.name());
-            write!(told, "{id} {method} {}\n", fate(entry.fate))?;
+            write!(told, "{id} {method} {}\n", fate(&entry.fate))?;
         }
     }
     Ok(told)
 }
 
-fn fate(fate: Fate) -> &'static str {
+fn fate(fate: &Fate) -> &'static str {
     match fate {
         Fate::Answered(data) => answer(data),
         Fate::Refused(ErrorCode::InvalidSessionId) => "without a session",
@@ -257,7 +257,7 @@ fn fate(fate: Fate) -> &'static str {
     }
 }
 
-fn answer(data: ResultData) -> &'static str {
+fn answer(data: &ResultData) -> &'static str {
     match data {
         ResultData::SessionStatus(status) if status.ready => "ready",
         _ => "answered",

@@ -14,4 +14,6 @@ mod params;
 #[cfg(test)]
 mod shape;
 #[cfg(test)]
+mod told;
+#[cfg(test)]
 mod values;

@@ -4,16 +4,15 @@
 //! stands once: `«3 [»` is `[[[`.
 ghost use Rattle.std.specs.Prelude.{IfOk};
 
+use crate::told::tell;
 use bidi_local::{LocalEnd, LocalFault, Received};
-use bidi_messages::{
-    CommandData, EventData, Method, Named, Payload, ResultData, data_of, read_message,
-};
+use bidi_messages::{CommandData, Method, Named, Payload, data_of, read_message};
 use bidi_tree::JsUint;
 use std::alloc::Global;
 use std::process::Abort;
 use std::test::Fail;
 use testing::repeats::repeated;
-use testing::texts::{tree_of, written};
+use testing::texts::tree_of;
 
 // ---- what texts mean
 
@@ -297,26 +296,20 @@ fn message_taken(alloc: Global, end: &mut LocalEnd, text: &str) -> Result<String
 
 fn shown(alloc: Global, received: Received) -> Result<String, Fail> {
     match received {
-        Received::Answer(id, result_data) => answer_shown(alloc, id, result_data),
+        Received::Answer(id, result_data) => {
+            let told = tell(alloc, result_data)?;
+            Ok(format!(in alloc; "Answer {id} {told}", id = id.value)?)
+        }
         Received::BadResult(id) => Ok(format!(in alloc; "BadResult {id}", id = id.value)?),
         Received::Refusal(id, code) => {
             Ok(format!(in alloc; "Refusal {id} {code}", id = id.value, code = code.name())?)
         }
-        Received::Event(event) => event_shown(alloc, event),
+        Received::Event(event) => {
+            let told = tell(alloc, event)?;
+            Ok(format!(in alloc; "Event {told}")?)
+        }
         Received::Stray => Ok(String::from_str(alloc, "Stray")?),
         Received::NotInProfile => Ok(String::from_str(alloc, "NotInProfile")?),
         Received::NotJson => Ok(String::from_str(alloc, "NotJson")?),
     }
-}
-
-fn answer_shown(alloc: Global, id: JsUint, result_data: ResultData) -> Result<String, Fail> {
-    let method = result_data.method().name();
-    let text = written(alloc, result_data.tree_of(alloc)?)?;
-    Ok(format!(in alloc; "Answer {id} {method} {text}", id = id.value)?)
-}
-
-fn event_shown(alloc: Global, event: EventData) -> Result<String, Fail> {
-    let name = event.event().name();
-    let text = written(alloc, event.tree_of(alloc)?)?;
-    Ok(format!(in alloc; "Event {name} {text}")?)
 }

@@ -2,16 +2,17 @@
 ghost use Rattle.std.specs.Prelude.{IfOk};
 ghost use Rattle.bidi_messages.specs.View.{IsWell};
 
+use crate::told::tell;
 use bidi_messages::{
     Command, CommandData, ErrorCode, EventData, EventName, Message, Method, Named, Payload,
-    ResultData, Sendable, SessionCommand, Verdict, data_of, error_text, event_text, judge,
-    judge_value, read_message, response_around, response_id, response_text, result_of, text_of,
+    Sendable, SessionCommand, Verdict, data_of, error_text, event_text, judge, judge_value,
+    read_message, response_around, response_id, response_text, result_of, text_of,
 };
 use bidi_params::UnsubscribeParameters;
 use bidi_shape::Shape;
 use bidi_tree::{JsUint, Tree, are_whole, parse};
 use json::{Scratch, Value};
-use std::alloc::{AllocError, Global};
+use std::alloc::Global;
 use std::test::Fail;
 use testing::rows::{Asked, check_rows};
 use testing::texts::{members_of, owned, tree_of, with_further, written};
@@ -278,22 +279,9 @@ fn result(alloc: Global, text: &str) -> Result<String, Fail> {
     let (method, members) = text.split_once(' ').ok_or("no result")?;
     let method = Method::named(method).ok_or("no method")?;
     match result_of(alloc, method, &members_of(alloc, members)?) {
-        Ok(answer) => told(alloc, parts_of_result(alloc, answer)),
+        Ok(answer) => tell(alloc, answer),
         Err(fault) => Ok(format!(in alloc; "{fault:?}")?),
     }
-}
-
-fn parts_of_result(alloc: Global, answer: ResultData) -> (&'static str, Result<Tree, AllocError>) {
-    (answer.method().name(), answer.tree_of(alloc))
-}
-
-/// A name, and the compact text of a tree.
-fn told(
-    alloc: Global,
-    (name, tree): (&'static str, Result<Tree, AllocError>),
-) -> Result<String, Fail> {
-    let text = written(alloc, tree?)?;
-    Ok(format!(in alloc; "{name} {text}")?)
 }
 
 // ---- messages
@@ -386,11 +374,7 @@ fn event_in(alloc: Global, text: &str) -> Result<EventData, Fail>
 }
 
 fn event(alloc: Global, text: &str) -> Result<String, Fail> {
-    told(alloc, parts_of_event(alloc, event_in(alloc, text)?))
-}
-
-fn parts_of_event(alloc: Global, data: EventData) -> (&'static str, Result<Tree, AllocError>) {
-    (data.event().name(), data.tree_of(alloc))
+    tell(alloc, event_in(alloc, text)?)
 }
 
 fn further(alloc: Global, text: &str) -> Result<String, Fail> {
@@ -509,7 +493,7 @@ fn error(alloc: Global, text: &str) -> Result<String, Fail> {
 
 fn event_again(alloc: Global, text: &str) -> Result<String, Fail> {
     let data = event_in(alloc, text)?;
-    Ok(event_text(alloc, &data)?)
+    event_text(alloc, &data).map_err(Fail::from)
 }
 
 fn name_of<N: Named>(alloc: Global, text: &str) -> Result<String, Fail> {

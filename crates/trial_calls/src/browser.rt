@@ -175,7 +175,7 @@ fn done(plan: Plan) -> Outcome {
         after,
         change,
     } = plan;
-    let has_result = result.is_some();
+    let has_result = is_there(result);
     Outcome::Done(
         Told {
             before,
@@ -184,6 +184,11 @@ fn done(plan: Plan) -> Outcome {
         },
         change,
     )
+}
+
+/// Whether there is one. It is used up here, where its variants are not visible.
+fn is_there<T: Drop>(it: Option<T>) -> bool {
+    it.is_some()
 }
 
 /// Writes what a plan brings about.
