@@ -8,21 +8,25 @@ long the text is; a name has a usual one.
 |---|---|---|
 | events | lines of an event | |
 | turns | moments and statuses by turns | |
+| refused | commands of a method that there is none of | |
 | pair | commands over 8 links, of which 100 wait on each at once | |
 | connections | statuses on the last connection | connections, up to 64 |
 | sessions_come | sessions that come and end | |
 | contexts | tabs that come with 15 frames, are shown 1,000 times and go | |
 | frames | frames that come and go below the last tab, unheard | tabs, up to 1,023 |
+| creates | times that tabs come and go, the oldest first | tabs, up to 1,023 |
 | looks | looks at the last tab alone | tabs, up to 1,024 |
 | navigate_last | navigations of the last tab, unheard | tabs, up to 1,024 |
 | navigate | navigations of which a session hears five events each | |
 | evaluate | evaluates of a text | bytes, up to 1,000,000 |
+| cut | evaluates of a list of numbers, at depth 1 | bytes, up to 1,000,000 |
 | call | calls that give their argument back, a text | bytes, up to 1,000,000 |
 | numbers | calls with a list of numbers | numbers, up to 33,000 |
 | handles | handles that are given and disowned | handles that stay, up to 999 |
 | subscribe | subscriptions that come and go | subscriptions that stay, up to 255 |
 | subscribe_tabs | the same, to the log | tabs, up to 1,024 |
 | unheard | navigations that nobody hears | subscriptions of each of 8 sessions, up to 256 |
+| users | lists of all user contexts | user contexts, up to 64 |
 | log | lines that 8 sessions miss, and then as many that their 64 connections hear | |
 | fan | frames that come and go, heard by 64 connections | |
 """
@@ -95,8 +99,8 @@ def navigations(count, of):
         yield command(1, "browsingContext.navigate", f'{{"context":"{of}","url":"https://shop.test/page/{it}"}}')
 
 
-def evaluation(ownership):
-    params = f'"awaitPromise":false,"expression":"page()","resultOwnership":"{ownership}","target":{{"context":"{context(1)}"}}'
+def evaluation(ownership, options=""):
+    params = f'"awaitPromise":false,"expression":"page()","resultOwnership":"{ownership}","target":{{"context":"{context(1)}"}}{options}'
     return command(1, "script.evaluate", f"{{{params}}}")
 
 
@@ -132,6 +136,10 @@ def turns(count):
         yield f'> 1 {{"id":{it},"method":"session.status","params":{{}}}}'
 
 
+def refused(count):
+    return [opened(1), *[command(1, "page.open")] * count]
+
+
 def pair(count):
     yield from map(opened, range(1, LINKS + 1))
     for _ in range(-(-count // (LINKS * WAITING))):
@@ -160,6 +168,14 @@ def frames(count, tabs=1023):
     yield from passing_frames(count, context(tabs), tabs)
 
 
+def creates(count, tabs=1023):
+    yield from new_session(1)
+    for round in range(count):
+        yield from [command(1, "browsingContext.create", '{"type":"tab"}')] * tabs
+        made = round * tabs + 2
+        yield from (command(1, "browsingContext.close", f'{{"context":"{context(it)}"}}') for it in range(made, made + tabs))
+
+
 def looks(count, tabs=1024):
     return new_tabs(tabs) + [command(1, "browsingContext.getTree", f'{{"maxDepth":0,"root":"{context(tabs)}"}}')] * count
 
@@ -177,6 +193,12 @@ def navigate(count):
 
 def evaluate(count, size=1000):
     return [*new_session(1), ROW % ('"page()"', f'"returns":{text_of(size)}'), *[evaluation("none")] * count]
+
+
+def cut(count, size=1000):
+    items = ",".join('{"type":"number","value":7}' for _ in range(size // 28))
+    row = ROW % ('"page()"', f'"returns":{{"type":"array","value":[{items}]}}')
+    return [*new_session(1), row, *[evaluation("none", ',"serializationOptions":{"maxObjectDepth":1}')] * count]
 
 
 def call(count, size=1000):
@@ -212,6 +234,11 @@ def unheard(count, size=256):
     yield from navigations(count, context(1))
 
 
+def users(count, live=64):
+    yield from [*new_session(1), *[command(1, "browser.createUserContext")] * (live - 1)]
+    yield from [command(1, "browser.getUserContexts")] * count
+
+
 def log(count):
     for part in new_sessions(), entries(count), subscribe_each(LOG), entries(count):
         yield from part
@@ -222,8 +249,8 @@ def fan(count):
     yield from passing_frames(count, context(1), 1)
 
 
-NAMES = [events, turns, pair, connections, sessions_come, contexts, frames, looks, navigate_last, navigate, evaluate, call, numbers, handles,
-         subscribe, subscribe_tabs, unheard, log, fan]
+NAMES = [events, turns, refused, pair, connections, sessions_come, contexts, frames, creates, looks, navigate_last, navigate, evaluate, cut,
+         call, numbers, handles, subscribe, subscribe_tabs, unheard, users, log, fan]
 WORKLOADS = {it.__name__: it for it in NAMES}
 
 
