@@ -1,10 +1,9 @@
 -- Why a plan in hand is that of the definitions.
 use Rattle.std.proofs.Common.{◌≡◌, ◌∙◌, ◌≤◌, ◌+◌, ℕ, suc, Bool, true, false, List, [], ◌∷◌, ◌++◌}
 use Rattle.std.proofs.Common.{map, Option, Some, None, Result, Ok, Err, unwrap_or, refl, sym, ap, ap₂, subst, arith}
-use Rattle.std.specs.Prelude.{not, find, nat_lt, if◌then◌else◌, is_none, is_some, Vec, option_map, option_to_list, IfSome, IfOk, IfErr}
+use Rattle.std.specs.Prelude.{not, find, nat_lt, if◌then◌else◌, is_none, is_some, option_map, option_to_list, IfSome, IfOk, IfErr}
 use Rattle.std.specs.Borrow.{Bor}
 use Rattle.std.specs.Result.{IsErrAnd}
-use Rattle.std.specs.declared.alloc.Global.{Global}
 use Rattle.std.proofs.lemmas.Simd.{map-map}
 use Rattle.url.specs.Parts.{Parts}
 use Rattle.bidi_tree.specs.Node.{Node, levels, items_levels}
@@ -25,7 +24,7 @@ use Rattle.bidi_contexts.specs.Acts.{Act, Made, Framed, Tabled, Logged, Looked, 
 use Rattle.bidi_contexts.specs.Places.{begun_at}
 use Rattle.bidi_contexts.specs.Accepted.{AreAccepted}
 use Rattle.bidi_contexts.specs.Actions.{Action, Log, TableRow, is_asked}
-use Rattle.bidi_browser.specs.Found.{AreTold}
+use Rattle.bidi_browser.specs.Found.{IsLookedAt}
 use Rattle.bidi_handles.specs.Maps.{nothing}
 use Rattle.bidi_contexts.specs.Contexts.{parent_of, top_of, level_of, window_of, user_of, contexts, context_of, tops}
 use Rattle.bidi_handles.specs.Checks.{found}
@@ -100,13 +99,12 @@ windows-told see past id true xs same =
     sym (map-map realm_info_in see xs) ∙ (ap (map realm_info_in) same ∙ map-map realm_info_in (row_at past) (realm_holders past id true))
 
 -- the check of what looks fails
-pub refused-looks : {A B : Type 0} (see : A → B) (q : Result (Vec A Global) Refusal) (r : Result Plan Refusal) (refusal : Refusal)
-    (past : List Act) (moment : ℕ) (action : Action) (shown : List B)
-    → AreTold see q (outcome past action) shown → q ≡ Err refusal → IsErrAnd r (λ e. e ≡ refusal) → Plans r past moment action
-refused-looks see q (Err e) (Code code) past moment action shown checked failed is =
-    subst (λ x. Plans (Err x) past moment action) (sym is) (subst (λ x. AreTold see x (outcome past action) shown) failed checked)
-refused-looks see q (Err e) NoMemory past moment action shown checked failed is = subst (λ x. Plans (Err x) past moment action) (sym is) tt
-refused-looks see q (Ok plan) refusal past moment action shown checked failed is = absurd is
+pub refused-looks : {A : Type 0} (q : Result A Refusal) (r : Result Plan Refusal) (refusal : Refusal) (past : List Act) (moment : ℕ) (action : Action)
+    → IsLookedAt q (outcome past action) → q ≡ Err refusal → IsErrAnd r (λ e. e ≡ refusal) → Plans r past moment action
+refused-looks q (Err e) (Code code) past moment action checked failed is =
+    subst (λ x. Plans (Err x) past moment action) (sym is) (subst (λ x. IsLookedAt x (outcome past action)) failed checked)
+refused-looks q (Err e) NoMemory past moment action checked failed is = subst (λ x. Plans (Err x) past moment action) (sym is) tt
+refused-looks q (Ok plan) refusal past moment action checked failed is = absurd is
 
 -- what is told of a realm has texts alone
 realm-flat : (row : ContextRow) → levels (realm_info_in row) ≡ 1

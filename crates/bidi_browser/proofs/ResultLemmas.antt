@@ -7,14 +7,14 @@ use Rattle.bidi_tree.specs.Node.{Node, null, text, levels, IsSound, ItemsAreSoun
 use Rattle.bidi_tree.specs.View.{items_of}
 use Rattle.bidi_tree.specs.Text.{compact_text, tree_of}
 use Rattle.bidi_tree.proofs.RoundTrip.{tree_of-compact_text}
-use Rattle.bidi_shape.specs.Name.{remote_value, exception_details, stack_trace, stack_frame, evaluate_result, user_context_info, get_user_contexts_result}
+use Rattle.bidi_shape.specs.Name.{remote_value, exception_details, stack_trace, stack_frame, evaluate_result, user_context_info, get_user_contexts_result, info, get_tree_result}
 use Rattle.bidi_shape.specs.Term as term
 use Rattle.bidi_shape.specs.Term.{required, exactly, js_uint, list_of, no_more, row, rule, closed, extensible}
 use Rattle.bidi_shape.specs.Fits.{Fits, fits_exactly, fits_text, fits_js_uint, fits_map, fits_list, fits_first, fits_second, fits_rule, no_row, no_item, an_item, AllFit}
 use Rattle.bidi_shape.proofs.FitsLemmas.{row_fits}
 use Rattle.bidi_methods.specs.Method.{result_of}
 use Rattle.bidi_methods.specs.declared.method.Method.{Method}
-use Rattle.bidi_methods.specs.declared.method.Method.TheVariants.{BrowserGetUserContexts}
+use Rattle.bidi_methods.specs.declared.method.Method.TheVariants.{BrowserGetUserContexts, BrowsingContextGetTree}
 use Rattle.bidi_values.specs.Content.{content}
 use Rattle.bidi_values.specs.NestedLaws.{nested_shape}
 use Rattle.bidi_values.specs.RemoteView.{remote_tree}
@@ -28,6 +28,8 @@ use Rattle.bidi_handles.specs.declared.id.IdKind.TheVariants.{Handle}
 use Rattle.bidi_handles.proofs.ShowingLemmas.{cut_to-levels, with_member-levels}
 use Rattle.bidi_handles.specs.Maps.{◌being◌and◌, mapped, listed}
 use Rattle.bidi_contexts.specs.Users.{user_id, user_info}
+use Rattle.bidi_contexts.specs.InfosWritten.{AreInfos, infos_tree}
+use Rattle.bidi_contexts.proofs.InfoTextLemmas.{all-below, all-sound, list-fits, none-odd}
 use Rattle.bidi_contexts.proofs.UserLemmas.{users-flat}
 use Rattle.bidi_browser.specs.Occurs.{exception_details as details}
 use Rattle.bidi_browser.specs.Results.{IsResultText}
@@ -157,6 +159,20 @@ users-result s us u written =
       fits_rule _ get_user_contexts_result (fits_map _ _ extensible
           (row_fits _ (codes "userContexts") required (list_of 1 (rule user_context_info)) no_more
           (fits_list (items_of (map_list user_info (u ∷ us))) 1 (rule user_context_info) (omega arith) (users-fit (u ∷ us))) (no_row _)) (refl, zero-le)),
+    )
+
+-- ---- trees of contexts
+
+-- the result that tells of contexts
+pub tree-result : (s : List ℕ) (infos : List Node) → s ≡ compact_text (infos_tree infos) → AreInfos 34 infos
+    → IsResultText BrowsingContextGetTree s (infos_tree infos)
+tree-result s infos written are =
+    let below = all-below 34 infos are in (
+      written,
+      ((tt, tt), (all-sound 34 infos are, tt)),
+      (rw (none-odd 34 infos are) refl, omega (arith, below)),
+      fits_rule _ get_tree_result (fits_map _ _ extensible
+          (row_fits _ (codes "contexts") required (list_of 0 (rule info)) no_more (list-fits 34 infos are) (no_row _)) (refl, zero-le)),
     )
 
 -- ---- levels

@@ -1,8 +1,7 @@
 -- What it means that a look-up or a check of the code agrees with its definition.
-use Rattle.std.specs.Prelude.{true, ◌≡◌, ℕ, List, map, Vec, Option, Some, None, Result, Ok, Err, ⊤}
+use Rattle.std.specs.Prelude.{true, ◌≡◌, ℕ, List, Option, Some, None, Result, Ok, Err, ⊤}
 use Rattle.std.specs.Borrow.{Bor}
 use Rattle.bidi_params.specs.declared.error_code.ErrorCode.{ErrorCode}
-use Rattle.std.specs.declared.alloc.Global.{Global}
 use Rattle.bidi_handles.specs.declared.refusal.Refusal.{Refusal}
 use Rattle.bidi_handles.specs.declared.refusal.Refusal.TheVariants.{Code, NoMemory}
 use Rattle.bidi_contexts.specs.declared.context.Context.{Context}
@@ -32,11 +31,11 @@ abbrev pub IsChecked : {A B : Type 0} → (A → B) → Result A ErrorCode → R
 IsChecked view (Ok x) answer = answer ≡ Ok (view x)
 IsChecked view (Err code) answer = answer ≡ Err code
 
--- The check passes and the values show what they should; or the code is that of the check; or an allocation failed.
-abbrev pub AreTold : {A B : Type 0} → (A → B) → Result (Vec A Global) Refusal → Result Act ErrorCode → List B → Type 0
-AreTold seen (Ok xs) checked shown = (checked ≡ Ok Looked) × (map seen xs.items ≡ shown)
-AreTold seen (Err (Code code)) checked shown = checked ≡ Err code
-AreTold seen (Err NoMemory) checked shown = ⊤
+-- The check passes; or the code is that of the check; or an allocation failed.
+abbrev pub IsLookedAt : {A : Type 0} → Result A Refusal → Result Act ErrorCode → Type 0
+IsLookedAt (Ok x) checked = checked ≡ Ok Looked
+IsLookedAt (Err (Code code)) checked = checked ≡ Err code
+IsLookedAt (Err NoMemory) checked = ⊤
 
 -- The check passes and the value shows what it should; or the code is that of the check.
 abbrev pub AreShown : {A B : Type 0} → (A → List B) → Result A ErrorCode → Result Act ErrorCode → List B → Type 0

@@ -6,8 +6,8 @@ ghost use Rattle.bidi_contexts.specs.Acts.{Act};
 ghost use Rattle.bidi_contexts.specs.Actions.{Activate, GetUserContexts};
 ghost use Rattle.bidi_browser.specs.Asked.{get_realms_asked, get_tree_asked};
 ghost use Rattle.bidi_contexts.specs.ContextRows.{row_of, row_at, realm_info_in};
-ghost use Rattle.bidi_browser.specs.Found.{AreShown, AreTold, IsFound, IsFoundIfNamed};
-ghost use Rattle.bidi_contexts.specs.InfosInHand.{AreWithin};
+ghost use Rattle.bidi_browser.specs.Found.{AreShown, IsFound, IsFoundIfNamed, IsLookedAt};
+ghost use Rattle.bidi_contexts.specs.InfosWritten.{TellsInfos};
 ghost use Rattle.bidi_contexts.specs.Info.{info_of};
 ghost use Rattle.bidi_handles.specs.Maps.{nothing};
 ghost use Rattle.bidi_browser.specs.Occurs.{realm_holders, roots, takes_windows};
@@ -23,7 +23,7 @@ use crate::plan::{Change, Edit, Plan};
 use bidi_contexts::{Context, Contexts};
 use bidi_handles::Refusal;
 use bidi_methods::{Method, Payload, ResultData};
-use bidi_params::{EmptyResult, ErrorCode, GetTreeParameters, GetTreeResult, Info};
+use bidi_params::{EmptyResult, ErrorCode, GetTreeParameters};
 use bidi_scripts::{GetRealmsParameters, GetRealmsResult, RealmInfo, RealmType};
 use bidi_shape::{Ext, Shape};
 use std::alloc::{AllocError, Global};
@@ -91,12 +91,12 @@ pub(crate) fn plan_get_tree(browser: &Browser, params: &GetTreeParameters) -> Re
     ensures well { IsWellPlanned result }
     ensures of_method { HasResultOf Method.BrowsingContextGetTree result }
 {
-    let infos = roots(browser, depth_in(params), &params.root)?;
-    let result = ResultData::BrowsingContextGetTree(GetTreeResult {
-        contexts: infos,
-        ext: Ext::empty(browser.alloc),
-    });
-    Ok(looked(browser.alloc, result))
+    let text = roots_text(browser, depth_in(params), &params.root)?;
+    let result = ResultText {
+        method: Method::BrowsingContextGetTree,
+        text,
+    };
+    Ok(answered(browser.alloc, CommandResult::Text(result), Edit::Keep))
 }
 
 // The depth that is asked for. Absent, it is the whole depth.
@@ -109,20 +109,21 @@ fn depth_in(params: &GetTreeParameters) -> Option<u64>
     }
 }
 
-// The Info of the context that is asked for, or of each top-level one.
-fn roots(browser: &Browser, depth: Option<u64>, root: &Option<String>) -> Result<Vec<Info>, Refusal>
-    ensures infos { (past : List Act) → StandsFor browser.now past → (let id = option_map string_bytes root.now in
-        AreTold ⟦<Info as Shape>⟧.shape.tree_of result (looked_at past id) (map (info_of past depth) (roots past id))) }
-    ensures well { IfOk result (λ all. AreWithin ⟦<Info as Shape>⟧.shape 34 all.items) }
+// The text of the result that has the Info of the context that is asked for, or of each top-level one.
+fn roots_text(
+    browser: &Browser,
+    depth: Option<u64>,
+    root: &Option<String>,
+) -> Result<String, Refusal>
+    ensures told { IfOk result (λ s. TellsInfos (string_bytes s) (λ infos. (past : List Act) → StandsFor browser.now past
+        → infos ≡ map (info_of past depth) (roots past (option_map string_bytes root.now)))) }
+    ensures looked { (past : List Act) → StandsFor browser.now past → IsLookedAt result (looked_at past (option_map string_bytes root.now)) }
 {
     match root {
-        None => Ok(browser.contexts.top_infos(depth)?),
+        None => Ok(browser.contexts.trees_text(depth)?),
         Some(id) => {
             let context = context_named(&browser.contexts, id)?;
-            let info = browser.contexts.info(context, depth)?;
-            let mut all = Vec::new(browser.alloc);
-            all.push(info)?;
-            Ok(all)
+            Ok(browser.contexts.tree_text(context, depth)?)
         }
     }
 }

@@ -36,16 +36,16 @@ pub somewhere : {A : Type 0} (past : List Act) (items : List in_hand.Context) (c
 somewhere past items c table acc alive none = nowhere past c acc alive (sym (place-stands past items c table) ∙ none)
 
 -- the end of a subtree in hand
-end-stands : (past : List Act) (items : List in_hand.Context) (i : ℕ) → map row_of items ≡ rows past → end_in (map (λ x. x.level) items) i ≡ end_at past i
+end-stands : (past : List Act) (items : List in_hand.Context) (i : ℕ) → map row_of items ≡ rows past → end_in (map (λ x. x.details.value.level) items) i ≡ end_at past i
 end-stands past items i table = ap (λ ls. end_in ls i) (levels-rows past items (tree_order past) table)
 
 -- a removal leaves the rows that the past has after it
 pub removed-rows : (past : List Act) (a i e : ℕ) (items lent : List in_hand.Context) → AreAccepted (Removed a ∷ past) → map row_of items ≡ rows past → lent ≡ items
-    → position (λ x. x.number == a) lent ≡ Some i → e ≡ end_in (map (λ x. x.level) lent) i
+    → position (λ x. x.number == a) lent ≡ Some i → e ≡ end_in (map (λ x. x.details.value.level) lent) i
     → map row_of (take i items ++ drop e items) ≡ rows (Removed a ∷ past)
 removed-rows past a i e items lent accepted table same place last =
     let at = subst (λ xs. position (λ x. x.number == a) xs ≡ Some i) same place in
-    let end = subst (λ xs. e ≡ end_in (map (λ x. x.level) xs) i) same last in
+    let end = subst (λ xs. e ≡ end_in (map (λ x. x.details.value.level) xs) i) same last in
     map-cut row_of (row_at past) items (tree_order past) i e table
     ∙ ap (map (row_at past)) (ap (λ n. take i (tree_order past) ++ drop n (tree_order past)) (end ∙ end-stands past items i table)
     ∙ sym (order-removed past a i accepted (sym (place-stands past items a table) ∙ at)))
@@ -59,13 +59,13 @@ one-more xs a i at =
 -- so does a navigation, once the row of its context has changed
 pub moved-rows : (past : List Act) (a i e : ℕ) (move : Move) (items lent : List in_hand.Context) → AreAccepted (Moved a move ∷ past)
     → map row_of items ≡ map (row_at (Moved a move ∷ past)) (tree_order past) → lent ≡ items
-    → position (λ x. x.number == a) lent ≡ Some i → e ≡ end_in (map (λ x. x.level) lent) i
+    → position (λ x. x.number == a) lent ≡ Some i → e ≡ end_in (map (λ x. x.details.value.level) lent) i
     → map row_of (take (i + 1) items ++ drop e items) ≡ rows (Moved a move ∷ past)
 moved-rows past a i e move items lent accepted table same place last =
     let order = tree_order past in
     let at : position (λ d. d == a) order ≡ Some i =
     sym (place-of (Moved a move ∷ past) items order a table) ∙ subst (λ xs. position (λ x. x.number == a) xs ≡ Some i) same place in
-    let end = subst (λ xs. e ≡ end_in (map (λ x. x.level) xs) i) same last in
+    let end = subst (λ xs. e ≡ end_in (map (λ x. x.details.value.level) xs) i) same last in
     map-cut row_of (row_at (Moved a move ∷ past)) items order (i + 1) e table
     ∙ ap (map (row_at (Moved a move ∷ past)))
     (ap₂ (λ xs n. xs ++ drop n order) (one-more order a i at) (end ∙ ap (λ ls. end_in ls i) (levels-rows (Moved a move ∷ past) items order table))
@@ -94,7 +94,7 @@ put-in f g items context cs k e same row =
 -- a new child leaves them too, where the subtree of its parent ends
 pub framed-rows : (past : List Act) (p : ℕ) (url : Parts) (i e : ℕ) (items : List in_hand.Context) (context : in_hand.Context)
     → AreAccepted (Framed p url ∷ past) → map row_of items ≡ rows past → row_of context ≡ row_at (Framed p url ∷ past) (next_number past Context)
-    → position (λ x. x.number == p) items ≡ Some i → e ≡ end_in (map (λ x. x.level) items) i
+    → position (λ x. x.number == p) items ≡ Some i → e ≡ end_in (map (λ x. x.details.value.level) items) i
     → map row_of (take e items ++ (context ∷ drop e items)) ≡ rows (Framed p url ∷ past)
 framed-rows past p url i e items context accepted table row at end =
     let after = Framed p url ∷ past in
@@ -121,17 +121,17 @@ made-rows past w u items context e accepted table row end =
 -- so either birth leaves them
 pub born-rows : (past : List Act) (act : Act) (items : List in_hand.Context) (context : in_hand.Context) (e : ℕ)
     → AreAccepted (act ∷ past) → gives Context act ≡ true → map row_of items ≡ rows past → row_of context ≡ row_at (act ∷ past) (next_number past Context)
-    → MatchOption context.parent (e ≡ length items) (λ p. (i : ℕ) → position (λ x. x.number == p) items ≡ Some i → e ≡ end_in (map (λ x. x.level) items) i)
+    → MatchOption context.details.value.parent (e ≡ length items) (λ p. (i : ℕ) → position (λ x. x.number == p) items ≡ Some i → e ≡ end_in (map (λ x. x.details.value.level) items) i)
     → map row_of (take e items ++ (context ∷ drop e items)) ≡ rows (act ∷ past)
 born-rows past (Made w u) items context e accepted born table row place =
     let none = ap (λ (r : ContextRow). r.parent) row ∙ parent-unborn past (next_number past Context) (omega arith) in
     made-rows past w u items context e accepted table row
-    (subst (λ o. MatchOption o (e ≡ length items) (λ p. (i : ℕ) → position (λ x. x.number == p) items ≡ Some i → e ≡ end_in (map (λ x. x.level) items) i)) none place)
+    (subst (λ o. MatchOption o (e ≡ length items) (λ p. (i : ℕ) → position (λ x. x.number == p) items ≡ Some i → e ≡ end_in (map (λ x. x.details.value.level) items) i)) none place)
 born-rows past (Framed p url) items context e accepted born table row place =
     let acc = accepted.2 in
     let lives = (act-sound past accepted.0 (Framed p url) accepted.1).alive in
     let parent = ap (λ (r : ContextRow). r.parent) row ∙ ap (λ b. if b then Some p else parent_of past (next_number past Context)) (same-number (next_number past Context)) in
-    let end = subst (λ o. MatchOption o (e ≡ length items) (λ p. (i : ℕ) → position (λ x. x.number == p) items ≡ Some i → e ≡ end_in (map (λ x. x.level) items) i)) parent place in
+    let end = subst (λ o. MatchOption o (e ≡ length items) (λ p. (i : ℕ) → position (λ x. x.number == p) items ≡ Some i → e ≡ end_in (map (λ x. x.details.value.level) items) i)) parent place in
     elim (position (λ x. x.number == p) items) as (λ o. position (λ x. x.number == p) items ≡ o
     → map row_of (take e items ++ (context ∷ drop e items)) ≡ rows (Framed p url ∷ past)) [
       | None ↦ λ none. somewhere past items p table acc lives none
@@ -146,7 +146,7 @@ ok-is (Err e) ok = ok
 
 -- the removal of a user context leaves the rows of the others
 pub left-rows : (past : List Act) (u : ℕ) (items : List in_hand.Context) → AreAccepted (UserRemoved u ∷ past) → map row_of items ≡ rows past
-    → map row_of (filter (λ x. not (x.user == u)) items) ≡ rows (UserRemoved u ∷ past)
+    → map row_of (filter (λ x. not (x.details.value.user == u)) items) ≡ rows (UserRemoved u ∷ past)
 left-rows past u items accepted table =
     let other = λ (r : ContextRow). not (r.user == u) in
     sym (filter-map row_of other items)

@@ -74,7 +74,7 @@ max-below : (a b n : ℕ) → a ≤ n → b ≤ n → max a b ≤ n
 max-below a b n le more = omega (arith, le, more)
 
 -- a list of Infos has one level more than the deepest
-pub items-below : (n : ℕ) (is : List Info) → AreWithin ghosts.shape n is → items_levels (items_of (map tree_of is)) ≤ n
+items-below : (n : ℕ) (is : List Info) → AreWithin ghosts.shape n is → items_levels (items_of (map tree_of is)) ≤ n
 items-below n [] within = omega arith
 items-below n (i ∷ is) within = max-below (levels (tree_of i)) (items_levels (items_of (map tree_of is))) n within.0.1 (items-below n is within.1)
 
@@ -94,7 +94,7 @@ shown-below n None row children below = omega (arith, below)
 shown-below n (Some p) row children below = let flat = parent-flat p in omega (arith, below, flat)
 
 -- each is well
-pub all-well : (n : ℕ) (is : List Info) → AreWithin ghosts.shape n is → AllByRecursion (λ i. ghosts.shape.well i) is
+all-well : (n : ℕ) (is : List Info) → AreWithin ghosts.shape n is → AllByRecursion (λ i. ghosts.shape.well i) is
 all-well n [] within = tt
 all-well n (i ∷ is) within = (within.0.0, all-well n is within.1)
 

@@ -2,6 +2,7 @@ pub mod OnLiterals
 pub mod UrlFacts
 pub mod PushLemmas
 pub mod InfoLemmas
+pub mod InfoTextLemmas
 pub mod TellingLemmas
 pub mod RealmLemmas
 pub mod AcceptedLemmas

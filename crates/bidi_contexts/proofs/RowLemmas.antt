@@ -68,7 +68,7 @@ numbers-of past items cs same =
     ∙ (map-map (λ (r : ContextRow). r.number) (row_at past) cs ∙ map-self cs))
 
 -- and their levels
-pub levels-rows : (past : List Act) (items : List Context) (cs : List ℕ) → map row_of items ≡ map (row_at past) cs → map (λ x. x.level) items ≡ map (level_of past) cs
+pub levels-rows : (past : List Act) (items : List Context) (cs : List ℕ) → map row_of items ≡ map (row_at past) cs → map (λ x. x.details.value.level) items ≡ map (level_of past) cs
 levels-rows past items cs same =
     sym (map-map (λ (r : ContextRow). r.level) row_of items) ∙ (ap (map (λ (r : ContextRow). r.level)) same
     ∙ map-map (λ (r : ContextRow). r.level) (row_at past) cs)
@@ -132,7 +132,7 @@ find-stands past items p same acc one = find-row past items (λ r. p r.number) s
 -- so does a look-up by realm
 pub realm-stands : (past : List Act) (items : List Context) (p : ℕ → Bool) → map row_of items ≡ rows past → AreAccepted past
     → ((c d : ℕ) → is_alive past c ≡ true → is_alive past d ≡ true → p (realm_of past c) ≡ true → p (realm_of past d) ≡ true → c ≡ d)
-    → option_map row_of (find (λ x. p x.realm) items) ≡ option_map (row_at past) (find (λ c. p (realm_of past c)) (contexts past))
+    → option_map row_of (find (λ x. p x.details.value.realm) items) ≡ option_map (row_at past) (find (λ c. p (realm_of past c)) (contexts past))
 realm-stands past items p same acc one = find-row past items (λ r. p r.realm) same acc one
 
 -- the realm that is found is that of the context that is found
@@ -158,7 +158,7 @@ first-top past (t ∷ ts) each =
 
 -- the oldest top-level context
 pub oldest-stands : (past : List Act) (items : List Context) → map row_of items ≡ rows past
-    → option_map row_of (find (λ x. option_eq nat_eq x.parent None) items) ≡ option_map (row_at past) (find (λ c. is_none (parent_of past c)) (contexts past))
+    → option_map row_of (find (λ x. option_eq nat_eq x.details.value.parent None) items) ≡ option_map (row_at past) (find (λ c. is_none (parent_of past c)) (contexts past))
 oldest-stands past items same =
     find-map row_of (λ r. option_eq nat_eq r.parent None) items
     ∙ (ap (find (λ (r : ContextRow). option_eq nat_eq r.parent None)) same

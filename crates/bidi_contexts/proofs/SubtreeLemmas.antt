@@ -35,7 +35,7 @@ not-empty x xs same = absurd (cc)
 
 -- how many of the contexts behind it stand below a context
 abbrev pub below_count : Context → List Context → ℕ
-below_count context behind = position_or_len (λ x. nat_le x.level context.level) behind
+below_count context behind = position_or_len (λ x. nat_le x.details.value.level context.details.value.level) behind
 
 -- the first context is the root of the first subtree, below it stand its children's, and behind these the other subtrees
 pub record First (context : Context) (behind : List Context) (past : List Act) (l : ℕ) (cs : List ℕ) : Type 0 where
@@ -57,12 +57,12 @@ first-subtree context behind past l (c ∷ rest) s =
     (map (row_at past) (flat_map (subtree_within 15 past) (children_of past c) ++ others)) s.rows in
     let behind-rows : map row_of behind ≡ map (row_at past) (inner ++ others) =
     parts.1 ∙ ap (λ xs. map (row_at past) (xs ++ others)) (below-is past acc c) in
-    let same : context.level ≡ level_of past c = ap (λ (r : ContextRow). r.level) parts.0 in
+    let same : context.details.value.level ≡ level_of past c = ap (λ (r : ContextRow). r.level) parts.0 in
     let each : (d : ℕ) → has rest d ≡ true → level_of past d ≡ l = (λ d listed. s.level d (has-later c d rest listed)) in
     let ends = subst (λ k. EndsAt (level_of past) k others) (sym (s.level c (has-first c rest))) (subtrees-end past acc l rest each) in
     let count : below_count context behind ≡ length inner =
-    first-map (λ (x : Context). x.level) (λ k. nat_le k context.level) behind
-    ∙ (ap (position_or_len (λ k. nat_le k context.level)) (levels-rows past behind (inner ++ others) behind-rows)
+    first-map (λ (x : Context). x.details.value.level) (λ k. nat_le k context.details.value.level) behind
+    ∙ (ap (position_or_len (λ k. nat_le k context.details.value.level)) (levels-rows past behind (inner ++ others) behind-rows)
     ∙ (ap (λ m. position_or_len (λ k. nat_le k m) (map (level_of past) (inner ++ others))) same
     ∙ deeper-joined (level_of past) (level_of past c) inner others (lower-in past acc c) ends)) in
     record {
@@ -210,7 +210,7 @@ drop-one (suc i) (y ∷ xs) x ys same = drop-one i xs x ys same
 
 -- below a live context stand its children's subtrees
 pub below-subtrees : (past : List Act) (items : List Context) (c i e : ℕ) → map row_of items ≡ rows past → AreAccepted past → is_alive past c ≡ true
-    → position (λ x. x.number == c) items ≡ Some i → e ≡ end_in (map (λ x. x.level) items) i
+    → position (λ x. x.number == c) items ≡ Some i → e ≡ end_in (map (λ x. x.details.value.level) items) i
     → AreSubtrees (take (e - (i + 1)) (drop (i + 1) items)) past (suc (level_of past c)) (children_of past c)
 below-subtrees past items c i e table acc alive at end =
     let order = tree_order past in
@@ -262,7 +262,7 @@ stands-alive past items c i table acc at =
 
 -- so below it stand its children's subtrees
 pub below-place : (past : List Act) (items lent : List Context) (number c i e : ℕ) → map row_of items ≡ rows past → AreAccepted past → items ≡ lent
-    → number ≡ c → position (λ x. x.number == number) items ≡ Some i → e ≡ end_in (map (λ x. x.level) items) i
+    → number ≡ c → position (λ x. x.number == number) items ≡ Some i → e ≡ end_in (map (λ x. x.details.value.level) items) i
     → AreSubtrees (take (e - (i + 1)) (drop (i + 1) lent)) past (suc (level_of past c)) (children_of past c)
 below-place past items lent number c i e table acc same is at end =
     let here : position (λ x. x.number == c) items ≡ Some i = subst (λ n. position (λ x. x.number == n) items ≡ Some i) is at in
@@ -294,17 +294,17 @@ drop-length (suc i) [] le = absurd (omega (arith, le))
 drop-length (suc i) (x ∷ xs) le = let ih = drop-length i xs (omega (arith, le)) in omega (arith, ih)
 
 end-at-place : (items : List Context) (i : ℕ) (d : Context) → i < length items
-    → end_in (map (λ x. x.level) items) i ≡ suc (i + position_or_len (λ x. nat_le x.level (get_or items i d).level) (drop (suc i) items))
+    → end_in (map (λ x. x.details.value.level) items) i ≡ suc (i + position_or_len (λ x. nat_le x.details.value.level (get_or items i d).details.value.level) (drop (suc i) items))
 end-at-place [] i d less = absurd (omega (arith, less))
-end-at-place (x ∷ items) zero d less = let same = first-map (λ (y : Context). y.level) (λ k. nat_le k x.level) items in omega (arith, same)
+end-at-place (x ∷ items) zero d less = let same = first-map (λ (y : Context). y.details.value.level) (λ k. nat_le k x.details.value.level) items in omega (arith, same)
 end-at-place (x ∷ items) (suc i) d less = let ih = end-at-place items i d (omega (arith, less)) in omega (arith, ih)
 
 pub range-end : (items : List Context) (i n : ℕ) (d : Context) → i < length items
-    → n ≡ position_or_len (λ x. nat_le x.level (get_or items i d).level) (take (length items - (i + 1)) (drop (i + 1) items))
-    → i + 1 + n ≡ end_in (map (λ x. x.level) items) i
+    → n ≡ position_or_len (λ x. nat_le x.details.value.level (get_or items i d).details.value.level) (take (length items - (i + 1)) (drop (i + 1) items))
+    → i + 1 + n ≡ end_in (map (λ x. x.details.value.level) items) i
 range-end items i n d less is =
     let end = end-at-place items i d less in
-    let same = ap (position_or_len (λ x. nat_le x.level (get_or items i d).level)) (slice-rest (i + 1) items ∙ ap (λ k. drop k items) (next i)) in
+    let same = ap (position_or_len (λ x. nat_le x.details.value.level (get_or items i d).details.value.level)) (slice-rest (i + 1) items ∙ ap (λ k. drop k items) (next i)) in
     omega (arith, end, same, is)
 
 pub range-within : (items : List Context) (i n : ℕ) → i < length items → n ≤ length (take (length items - (i + 1)) (drop (i + 1) items)) → i + 1 + n ≤ length items

@@ -46,14 +46,14 @@ abbrev pub row_of : Context → ContextRow
 row_of c =
     record {
       number = c.number;
-      parent = c.parent;
-      top = c.top;
-      level = c.level;
-      window = c.window;
-      user = c.user;
-      realm = c.realm;
-      entries = entries_in c.history;
-      handles = handles_seen c.handles;
+      parent = c.details.value.parent;
+      top = c.details.value.top;
+      level = c.details.value.level;
+      window = c.details.value.window;
+      user = c.details.value.user;
+      realm = c.details.value.realm;
+      entries = entries_in c.details.value.history;
+      handles = handles_seen c.details.value.handles;
     }
 
 -- The row that a past gives a context.

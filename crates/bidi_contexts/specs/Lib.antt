@@ -15,5 +15,6 @@ pub mod View
 pub mod HistoryInHand
 pub mod ContextRows
 pub mod InfosInHand
+pub mod InfosWritten
 pub mod Tables
 pub mod Subtrees

@@ -53,13 +53,13 @@ HasRoomForOne contexts = vec_len contexts.live < vec_capacity contexts.live
 abbrev pub HasRoomIn : Contexts → ℕ → Move → Type 0
 HasRoomIn contexts number move =
     (i : ℕ) (d : declared_context.Context)
-    → position (λ c. c.number == number) contexts.live.items ≡ Some i → HasRoomFor (get_or contexts.live.items i d).history move
+    → position (λ c. c.number == number) contexts.live.items ≡ Some i → HasRoomFor (get_or contexts.live.items i d).details.value.history move
 
 -- There is room for one more handle in the realm of the context of a number, if that context is live.
 abbrev pub HasRoomForHandle : Contexts → ℕ → Type 0
 HasRoomForHandle contexts number =
     (i : ℕ) (d : declared_context.Context)
-    → position (λ c. c.number == number) contexts.live.items ≡ Some i → HasSpare (get_or contexts.live.items i d).handles
+    → position (λ c. c.number == number) contexts.live.items ≡ Some i → HasSpare (get_or contexts.live.items i d).details.value.handles
 
 -- There is room for one more user context.
 abbrev pub HasRoomForUser : Users → Type 0

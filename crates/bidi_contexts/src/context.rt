@@ -1,5 +1,5 @@
 //! A live context.
-ghost use Rattle.std.specs.Prelude.{◌≡◌, ◌<◌, ◌+◌, ◌^◌, [], None, Some, is_none, IfOk, IfSome};
+ghost use Rattle.std.specs.Prelude.{◌≡◌, ◌<◌, ◌+◌, ◌^◌, [], None, Some, is_none, IfOk, IfSome, OnOk};
 ghost use Rattle.std.specs.List.{All};
 ghost use Rattle.std.proofs.Props.{props};
 
@@ -14,6 +14,15 @@ use url::Url;
 pub struct Context {
     /// The number of the context, from which its id is made.
     pub(crate) number: u64,
+    /// What else it has. It stands in a block of its own, so that a table of contexts is quick to search and to move.
+    pub(crate) details: Box<Details>,
+    // The number can stand in an id.
+    ghost number_fits: { number < 2 ^ 48 },
+}
+
+/// What a live context has besides its number.
+#[derive(Drop)]
+pub(crate) struct Details {
     /// The number of its parent; a top-level context has none.
     pub(crate) parent: Option<u64>,
     /// The number of its top-level context, which may be itself.
@@ -30,8 +39,6 @@ pub struct Context {
     pub(crate) history: SessionHistory,
     /// The handles of its realm, in order of number.
     pub(crate) handles: Handles,
-    // The number can stand in an id.
-    ghost number_fits: { number < 2 ^ 48 },
     // The number of the parent can stand in an id.
     ghost parent_fits: { IfSome parent (λ p. p < 2 ^ 48) } by { Prim.hlevel props },
     // The number of the window can stand in an id.
@@ -82,8 +89,7 @@ impl Context {
             }) }
     {
         let url = about_blank(alloc)?;
-        Ok(Context {
-            number,
+        let details = Details {
             parent: None,
             top: number,
             level: 1,
@@ -92,7 +98,8 @@ impl Context {
             realm,
             history: SessionHistory::begun_at(alloc, url)?,
             handles: Handles::new(alloc),
-        })
+        };
+        Context::of(alloc, number, details)
     }
 
     /// A new child of this context, at a URL, in the same user context.
@@ -124,16 +131,27 @@ impl Context {
               handles = [];
             })) }
     {
-        Ok(Context {
-            number,
+        let details = Details {
             parent: Some(self.number),
-            top: self.top,
-            level: self.level.wrapping_add(1),
-            window: self.window,
-            user: self.user,
+            top: self.details.top,
+            level: self.details.level.wrapping_add(1),
+            window: self.details.window,
+            user: self.details.user,
             realm,
             history: SessionHistory::begun_at(alloc, url)?,
             handles: Handles::new(alloc),
+        };
+        Context::of(alloc, number, details)
+    }
+
+    // The context of a number with these details.
+    fn of(alloc: Global, number: u64, details: Details) -> Result<Context, AllocError>
+        requires { number < 2 ^ 48 }
+        ensures { IfOk result (λ c. (c.number ≡ number) × (c.details.value ≡ details)) }
+    {
+        Ok(Context {
+            number,
+            details: Box::new(alloc, details)?,
         })
     }
 
@@ -152,7 +170,7 @@ impl Context {
         // It is one exactly if its row has no parent.
         ensures { result ≡ is_none (row_of self.now).parent }
     {
-        self.parent.is_none()
+        self.details.parent.is_none()
     }
 
     /// The number of its top-level context, which may be itself.
@@ -160,7 +178,7 @@ impl Context {
         // It is the number in its row.
         ensures { result ≡ (row_of self.now).top }
     {
-        self.top
+        self.details.top
     }
 
     /// Its level in the tree, 1 for a top-level context.
@@ -168,7 +186,7 @@ impl Context {
         // It is the level in its row.
         ensures { result ≡ (row_of self.now).level }
     {
-        self.level
+        self.details.level
     }
 
     /// The number of its client window.
@@ -178,7 +196,15 @@ impl Context {
         // It can stand in an id.
         ensures fits { result < 2 ^ 48 }
     {
-        self.window
+        self.details.window
+    }
+
+    /// The number of its user context; 0 is the default one.
+    pub(crate) fn user(&self) -> u64
+        ensures user { result ≡ (row_of self.now).user }
+        ensures fits { result < 2 ^ 48 }
+    {
+        self.details.user
     }
 
     /// The number of its realm.
@@ -188,7 +214,7 @@ impl Context {
         // It can stand in an id.
         ensures fits { result < 2 ^ 48 }
     {
-        self.realm
+        self.details.realm
     }
 
     /// Its session history, which has its URL.
@@ -196,7 +222,7 @@ impl Context {
         // It has the entries in its row.
         ensures { entries_in result.now ≡ (row_of self.now).entries }
     {
-        &self.history
+        &self.details.history
     }
 
     /// The handles of its realm, in order of number.
@@ -204,33 +230,49 @@ impl Context {
         // They are the handles in its row.
         ensures { handles_seen result.now ≡ (row_of self.now).handles }
     {
-        &self.handles
+        &self.details.handles
+    }
+
+    /// Makes room in its session history for the entry that a move adds, if it adds one.
+    pub(crate) fn reserve(&mut self, to: &Move) -> Result<(), AllocError>
+        ensures kept { row_of self.new ≡ row_of self.old }
+        ensures room { OnOk result (HasRoomFor self.new.details.value.history to.now) }
+    {
+        self.details.history.reserve(to)
+    }
+
+    /// Makes room for one more handle in its realm.
+    pub(crate) fn reserve_handle(&mut self) -> Result<(), AllocError>
+        ensures kept { row_of self.new ≡ row_of self.old }
+        ensures room { OnOk result (HasSpare self.new.details.value.handles) }
+    {
+        self.details.handles.reserve()
     }
 
     /// Moves it in its session history and gives it this new realm, which has no handles. Takes no memory.
     pub(crate) fn navigate(&mut self, realm: u64, to: Move)
         // The number of the realm can stand in an id.
         requires realm { realm < 2 ^ 48 }
-        requires room { HasRoomFor self.now.history to }
-        ensures { Leads (entries_in self.old.history) (move_of to) → row_of self.new ≡ moved_in realm (move_of to) (row_of self.old) }
+        requires room { HasRoomFor self.now.details.value.history to }
+        ensures { Leads (entries_in self.old.details.value.history) (move_of to) → row_of self.new ≡ moved_in realm (move_of to) (row_of self.old) }
     {
-        self.realm = realm;
-        self.handles.clear();
-        self.history.go(to);
+        self.details.realm = realm;
+        self.details.handles.clear();
+        self.details.history.go(to);
     }
 
     /// Adds a handle to its realm, if the number is above those of all handles there. Takes no memory.
     pub(crate) fn hold(&mut self, handle: Handle)
-        requires { HasSpare self.now.handles }
+        requires { HasSpare self.now.details.value.handles }
         ensures { All (λ held. held.0 < handle.number) (row_of self.old).handles → row_of self.new ≡ held_in (handle_seen handle) (row_of self.old) }
     {
-        self.handles.hold(handle);
+        self.details.handles.hold(handle);
     }
 
     /// Releases the handles of these numbers in its realm. Takes no memory.
     pub(crate) fn disown(&mut self, numbers: &[u64])
         ensures { row_of self.new ≡ without_in numbers.now (row_of self.old) }
     {
-        self.handles.disown(numbers);
+        self.details.handles.disown(numbers);
     }
 }

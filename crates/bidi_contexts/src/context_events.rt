@@ -1,10 +1,11 @@
 //! What is told of a context: its Infos and its events.
-ghost use Rattle.std.specs.Prelude.{◌≡◌, ℕ, ◌≤◌, ◌<◌, ◌+◌, ◌^◌, IfOk, option_map};
+ghost use Rattle.std.specs.Prelude.{◌≡◌, ℕ, ◌≤◌, ◌<◌, ◌+◌, ◌^◌, IfOk, map, option_map};
 ghost use Rattle.bidi_contexts.specs.ContextRows.{row_of, inner_info, root_info, shown_info, created_in, realm_info_at};
 ghost use Rattle.bidi_contexts.specs.ContextRows.{realm_info_in, realm_began_in, realm_created_in, realm_destroyed_in};
 ghost use Rattle.bidi_contexts.specs.ContextRows.{navigation_info_in, occurrence_in};
 ghost use Rattle.bidi_contexts.specs.Info.{parent_tree};
-ghost use Rattle.bidi_contexts.specs.InfosInHand.{children_node, parent_node, AreWithinIfTold, IsWithin};
+ghost use Rattle.bidi_contexts.specs.InfosInHand.{children_node, parent_node, AreWithin, AreWithinIfTold, IsWithin};
+ghost use Rattle.bidi_handles.specs.Maps.{listed};
 ghost use Rattle.bidi_contexts.specs.View.{EventIsWell, occurrence_of};
 ghost use Rattle.bidi_methods.specs.declared.event_data.EventName.TheVariants.{ContextDestroyed, NavigationStarted, DomContentLoaded, Load, EntryAdded};
 
@@ -23,16 +24,12 @@ use url::Url;
 
 impl Context {
     /// Its Info as one of its parent's children: these children, and no member `parent`.
-    pub(crate) fn info(
-        &self,
-        alloc: Global,
-        children: Option<Vec<Info>>,
-    ) -> Result<Info, AllocError>
+    pub(crate) fn info(&self, alloc: Global, children: Vec<Info>) -> Result<Info, AllocError>
         ensures tree { IfOk result (λ i. ⟦<Info as Shape>⟧.shape.tree_of i
-            ≡ inner_info (row_of self.now) (children_node ⟦<Info as Shape>⟧.shape.tree_of children)) }
-        ensures well { (n : ℕ) → AreWithinIfTold ⟦<Info as Shape>⟧.shape n children → n ≤ 58 → IfOk result (IsWithin ⟦<Info as Shape>⟧.shape (n + 2)) }
+            ≡ inner_info (row_of self.now) (listed (map ⟦<Info as Shape>⟧.shape.tree_of children.items))) }
+        ensures well { (n : ℕ) → AreWithin ⟦<Info as Shape>⟧.shape n children.items → n ≤ 58 → IfOk result (IsWithin ⟦<Info as Shape>⟧.shape (n + 2)) }
     {
-        self.shown(alloc, None, children)
+        self.shown(alloc, None, Some(children))
     }
 
     /// Its Info as the root of a tree: these children, and a member `parent`, null for a top-level context.
@@ -51,9 +48,9 @@ impl Context {
 
     // The id of its parent; `None` for a top-level context.
     fn parent_id(&self, alloc: Global) -> Result<Option<String>, AllocError>
-        ensures { IfOk result (λ id. parent_node id ≡ parent_tree self.now.parent) }
+        ensures { IfOk result (λ id. parent_node id ≡ parent_tree (row_of self.now).parent) }
     {
-        match self.parent {
+        match self.details.parent {
             Some(parent) => Ok(Some(id_text(alloc, IdKind::Context, 0, parent)?)),
             None => Ok(None),
         }
@@ -72,11 +69,11 @@ impl Context {
     {
         Ok(Info {
             children,
-            client_window: id_text(alloc, IdKind::Window, 0, self.window)?,
+            client_window: id_text(alloc, IdKind::Window, 0, self.window())?,
             context: id_text(alloc, IdKind::Context, 0, self.number)?,
             original_opener: None,
-            url: String::from_str(alloc, self.history.present().as_str())?,
-            user_context: user_text(alloc, self.user)?,
+            url: String::from_str(alloc, self.history().present().as_str())?,
+            user_context: user_text(alloc, self.user())?,
             parent,
             ext: Ext::empty(alloc),
         })
@@ -89,7 +86,7 @@ impl Context {
         // It is well formed.
         ensures well { IfOk result ⟦<RealmInfo as Shape>⟧.shape.well }
     {
-        self.realm_info(alloc, self.realm, self.history.present())
+        self.realm_info(alloc, self.realm(), self.history().present())
     }
 
     // The RealmInfo of a realm of this context whose document is at this URL.
@@ -135,7 +132,7 @@ impl Context {
         // A message can be made of it.
         ensures well { IfOk result (λ o. EventIsWell o.event) }
     {
-        self.realm_began(alloc, self.realm, self.history.present())
+        self.realm_began(alloc, self.realm(), self.history().present())
     }
 
     /// The realmCreated event of a realm that this context gets at a URL.
@@ -163,7 +160,7 @@ impl Context {
         // A message can be made of it.
         ensures well { IfOk result (λ o. EventIsWell o.event) }
     {
-        let realm = id_text(alloc, IdKind::Realm, 0, self.realm)?;
+        let realm = id_text(alloc, IdKind::Realm, 0, self.realm())?;
         let params = RealmDestroyedParameters {
             realm,
             ext: Ext::empty(alloc),
@@ -243,14 +240,14 @@ impl Context {
     fn occurrence(&self, event: EventData) -> Occurrence
         ensures event { result.event ≡ event }
         ensures context { result.context ≡ self.now.number }
-        ensures top { result.top ≡ record { number = self.now.top; user = self.now.user } }
+        ensures top { result.top ≡ record { number = (row_of self.now).top; user = (row_of self.now).user } }
     {
         Occurrence {
             event,
             context: self.number,
             top: Top {
-                number: self.top,
-                user: self.user,
+                number: self.top(),
+                user: self.user(),
             },
         }
     }

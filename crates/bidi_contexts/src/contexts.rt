@@ -1,6 +1,6 @@
 //! The table of live contexts, in tree order. Only this file knows how they are kept; everyone else asks it.
-ghost use Rattle.std.specs.Prelude.{◌≡◌, ◌≤◌, ◌<◌, ◌^◌, ◌==◌, ℕ, suc, List, ◌∷◌, [], true, nat_eq, None};
-ghost use Rattle.std.specs.Prelude.{IfOk, OnOk, map, find, length, bytes_eq, is_none, option_map};
+ghost use Rattle.std.specs.Prelude.{◌≡◌, ◌≤◌, ◌<◌, ◌^◌, ◌==◌, ℕ, suc, List, ◌∷◌, [], true, nat_eq, Some, None};
+ghost use Rattle.std.specs.Prelude.{IfOk, OnOk, map, find, length, bytes_eq, is_none, option_map, string_bytes};
 ghost use Rattle.std.specs.List.{list_any, remove_range};
 ghost use Rattle.std.specs.Option.{option_eq};
 ghost use Rattle.bidi_handles.specs.Ids.{id_of};
@@ -10,17 +10,15 @@ ghost use Rattle.bidi_contexts.specs.Contexts.{contexts, context_of, is_alive, l
 ghost use Rattle.bidi_contexts.specs.Info.{info_of};
 ghost use Rattle.bidi_contexts.specs.ContextRows.{row_of, row_at, rows, moved_in, changed};
 ghost use Rattle.bidi_contexts.specs.Realms.{realm_of};
-ghost use Rattle.bidi_contexts.specs.InfosInHand.{AreWithin, IsWithin};
+ghost use Rattle.bidi_contexts.specs.InfosWritten.{TellsInfos};
 ghost use Rattle.bidi_contexts.specs.Subtrees.{AreSubtrees};
 
 use crate::context::Context;
-use crate::info_trees::{top_infos, whole_info};
+use crate::info_texts::{tree_text, trees_text};
 use crate::navigation::Navigation;
 use crate::session_history::Move;
 use crate::subtrees::{place_for, place_of, range_of};
 use bidi_handles::{Handle, IdKind, id_number};
-use bidi_params::Info;
-use bidi_shape::Shape;
 use std::alloc::{AllocError, Global};
 
 /// The live contexts in tree order: a parent before its children, siblings in order of creation, each subtree
@@ -111,31 +109,36 @@ impl Contexts {
         }
     }
 
-    /// The Info of a context with its parent, to this depth. `None` is the whole depth.
+    /// The text of an object whose one member `contexts` is a list of one Info, that of a context with its parent, to this
+    /// depth. `None` is the whole depth.
     ///
-    /// Looks for what stands below the context, but at depth 0, which shows no children.
-    pub fn info(&self, context: &Context, depth: Option<u64>) -> Result<Info, AllocError>
-        // For every past that the table stands for, its tree is that of the Info of the context to the depth.
-        ensures tree { (past : List Act) (c : ℕ) → IsTableOf self.now past
-            → row_of context.now ≡ row_at past c → IfOk result (λ i. ⟦<Info as Shape>⟧.shape.tree_of i ≡ info_of past depth c) }
-        // The Info is well formed and has at most 34 levels.
-        ensures well { IfOk result (IsWithin ⟦<Info as Shape>⟧.shape 34) }
+    /// Looks for what stands below the context, but at depth 0, which shows no children. Makes a text for each id.
+    pub fn tree_text(&self, context: &Context, depth: Option<u64>) -> Result<String, AllocError>
+        // For every past that the table stands for, the one Info is that of the context to the depth.
+        ensures { IfOk result (λ s. TellsInfos (string_bytes s)
+            (λ infos. (past : List Act) (c : ℕ) → IsTableOf self.now past → row_of context.now ≡ row_at past c → infos ≡ info_of past depth c ∷ [])) }
+    {
+        tree_text(self.alloc, context, self.shown_below(context, depth), depth)
+    }
+
+    // The descendants of a context in tree order, but at depth 0, which shows none, nothing.
+    fn shown_below(&self, context: &Context, depth: Option<u64>) -> &[Context]
+        ensures { (past : List Act) (c : ℕ) → IsTableOf self.now past → row_of context.now ≡ row_at past c
+            → ¬ (depth ≡ Some 0) → AreSubtrees result.now past (suc (level_of past c)) (children_of past c) }
     {
         match depth {
-            Some(0) => context.root_info(self.alloc, None),
-            _ => whole_info(self.alloc, context, self.below(context), depth),
+            Some(0) => &[],
+            _ => self.below(context),
         }
     }
 
-    /// The Info of each top-level context, to this depth. `None` is the whole depth.
-    pub fn top_infos(&self, depth: Option<u64>) -> Result<Vec<Info>, AllocError>
-        // For every past that the table stands for, their trees are those of the Infos of the live top-level contexts, by creation.
-        ensures tree { (past : List Act) → IsTableOf self.now past
-            → IfOk result (λ all. map ⟦<Info as Shape>⟧.shape.tree_of all.items ≡ map (info_of past depth) (tops past)) }
-        // Each Info is well formed and has at most 34 levels.
-        ensures well { IfOk result (λ all. AreWithin ⟦<Info as Shape>⟧.shape 34 all.items) }
+    /// The same of the Infos of all top-level contexts.
+    pub fn trees_text(&self, depth: Option<u64>) -> Result<String, AllocError>
+        // For every past that the table stands for, the Infos are those of the live top-level contexts to the depth, by creation.
+        ensures { IfOk result (λ s. TellsInfos (string_bytes s)
+            (λ infos. (past : List Act) → IsTableOf self.now past → infos ≡ map (info_of past depth) (tops past))) }
     {
-        top_infos(self.alloc, &self.live, depth)
+        trees_text(self.alloc, &self.live, depth)
     }
 
     /// Makes room for one more context.
@@ -156,7 +159,7 @@ impl Contexts {
         ensures room { OnOk result (HasRoomIn self.new navigation.now.context navigation.now.to) }
     {
         match place_of(&self.live, navigation.context) {
-            Some(place) => self.live[place].history.reserve(&navigation.to),
+            Some(place) => self.live[place].reserve(&navigation.to),
             None => Ok(()),
         }
     }
@@ -170,7 +173,7 @@ impl Contexts {
         ensures { (past : List Act) (act : Act) → IsTableOf self.old past → AreAccepted (act ∷ past) → gives IdKind.Context act ≡ true
             → row_of context ≡ row_at (act ∷ past) (next_number past IdKind.Context) → IsTableOf self.new (act ∷ past) }
     {
-        let place = place_for(&self.live, context.parent);
+        let place = place_for(&self.live, context.details.parent);
         // It succeeds, since there is room.
         let _ = self.live.insert(place, context);
     }
@@ -190,7 +193,7 @@ impl Contexts {
         // The table then stands for the past with the removal of the user context added, if that past can be.
         ensures { (past : List Act) → IsTableOf self.old past → AreAccepted (UserRemoved user ∷ past) → IsTableOf self.new (UserRemoved user ∷ past) }
     {
-        self.live.retain(|context| context.user != user);
+        self.live.retain(|context| context.details.user != user);
     }
 
     /// Carries out a navigation: its context moves in the session history and gets a new realm, and all
@@ -217,7 +220,7 @@ impl Contexts {
         ensures room { OnOk result (HasRoomForHandle self.new number) }
     {
         match place_of(&self.live, number) {
-            Some(place) => self.live[place].handles.reserve(),
+            Some(place) => self.live[place].reserve_handle(),
             None => Ok(()),
         }
     }
@@ -294,7 +297,7 @@ fn numbered(contexts: &[Context], number: u64) -> Option<&Context>
 
 // The context whose realm has this id.
 fn in_realm<'a>(contexts: &'a [Context], id: &str) -> Option<&'a Context>
-    ensures found { option_map (λ c. c.now) result ≡ find (λ c. bytes_eq id.now (id_of IdKind.Realm c.realm)) contexts.now }
+    ensures found { option_map (λ c. c.now) result ≡ find (λ c. bytes_eq id.now (id_of IdKind.Realm c.details.value.realm)) contexts.now }
     ensures one { (n m : ℕ) → n < 2 ^ 48 → m < 2 ^ 48 → bytes_eq id.now (id_of IdKind.Realm n) ≡ true → bytes_eq id.now (id_of IdKind.Realm m) ≡ true → n ≡ m }
 {
     with_realm(contexts, id_number(id, IdKind::Realm, 0)?)
@@ -302,14 +305,18 @@ fn in_realm<'a>(contexts: &'a [Context], id: &str) -> Option<&'a Context>
 
 // The context whose realm has this number.
 fn with_realm(contexts: &[Context], realm: u64) -> Option<&Context>
-    ensures { option_map (λ c. c.now) result ≡ find (λ c. c.realm == realm) contexts.now }
+    ensures { option_map (λ c. c.now) result ≡ find (λ c. c.details.value.realm == realm) contexts.now }
 {
-    contexts.iter().find(|context| context.realm == realm)
+    contexts
+        .iter()
+        .find(|context| context.details.realm == realm)
 }
 
 // The oldest top-level context.
 fn oldest(contexts: &[Context]) -> Option<&Context>
-    ensures { option_map (λ c. c.now) result ≡ find (λ c. option_eq nat_eq c.parent None) contexts.now }
+    ensures { option_map (λ c. c.now) result ≡ find (λ c. option_eq nat_eq c.details.value.parent None) contexts.now }
 {
-    contexts.iter().find(|context| context.parent.is_none())
+    contexts
+        .iter()
+        .find(|context| context.details.parent.is_none())
 }

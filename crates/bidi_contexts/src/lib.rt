@@ -15,6 +15,7 @@
 mod context;
 mod context_events;
 mod contexts;
+mod info_texts;
 mod info_trees;
 mod limits;
 mod navigation;

@@ -12,16 +12,16 @@ use crate::context::Context;
 pub(crate) fn range_of(contexts: &[Context], number: u64) -> Option<(usize, usize)>
     ensures { MatchOption result (position (λ c. c.number == number) contexts.now ≡ None) (λ range.
         (position (λ c. c.number == number) contexts.now ≡ Some range.0)
-        × (range.1 ≡ end_in (map (λ c. c.level) contexts.now) range.0) × (range.0 < range.1) × (range.1 ≤ length contexts.now)) }
+        × (range.1 ≡ end_in (map (λ c. c.details.value.level) contexts.now) range.0) × (range.0 < range.1) × (range.1 ≤ length contexts.now)) }
 {
     let start = place_of(contexts, number)?;
     let behind = &contexts[start + 1..];
-    Some((start, start + 1 + len_below(contexts[start].level, behind)))
+    Some((start, start + 1 + len_below(&contexts[start], behind)))
 }
 
 // Where the subtree of the context of this number ends; where there is none, the end of all.
 fn end_of(contexts: &[Context], number: u64) -> usize
-    ensures is { (i : ℕ) → position (λ c. c.number == number) contexts.now ≡ Some i → result ≡ end_in (map (λ c. c.level) contexts.now) i }
+    ensures is { (i : ℕ) → position (λ c. c.number == number) contexts.now ≡ Some i → result ≡ end_in (map (λ c. c.details.value.level) contexts.now) i }
     ensures within { result ≤ length contexts.now }
 {
     match range_of(contexts, number) {
@@ -34,7 +34,7 @@ fn end_of(contexts: &[Context], number: u64) -> usize
 /// the end.
 pub(crate) fn place_for(contexts: &[Context], parent: Option<u64>) -> usize
     ensures is { MatchOption parent (result ≡ length contexts.now) (λ p. (i : ℕ)
-        → position (λ c. c.number == p) contexts.now ≡ Some i → result ≡ end_in (map (λ c. c.level) contexts.now) i) }
+        → position (λ c. c.number == p) contexts.now ≡ Some i → result ≡ end_in (map (λ c. c.details.value.level) contexts.now) i) }
     ensures within { result ≤ length contexts.now }
 {
     match parent {
@@ -43,20 +43,21 @@ pub(crate) fn place_for(contexts: &[Context], parent: Option<u64>) -> usize
     }
 }
 
-/// How many contexts from the first on stand below this level. Of those behind a context, and for its level,
-/// these are its descendants.
-pub(crate) fn len_below(level: u64, contexts: &[Context]) -> usize
-    ensures is { result ≡ position_or_len (λ c. nat_le c.level level) contexts.now }
-    ensures within { result ≤ length contexts.now }
+/// How many of the contexts behind a context are its descendants: from the first on, those below its level.
+pub(crate) fn len_below(context: &Context, behind: &[Context]) -> usize
+    ensures is { result ≡ position_or_len (λ c. nat_le c.details.value.level context.now.details.value.level) behind.now }
+    ensures within { result ≤ length behind.now }
 {
-    first_at(level, contexts).unwrap_or(contexts.len())
+    first_at(context.level(), behind).unwrap_or(behind.len())
 }
 
 // The place of the first context that does not stand below this level.
 fn first_at(level: u64, contexts: &[Context]) -> Option<usize>
-    ensures { result ≡ position (λ c. nat_le c.level level) contexts.now }
+    ensures { result ≡ position (λ c. nat_le c.details.value.level level) contexts.now }
 {
-    contexts.iter().position(|context| context.level <= level)
+    contexts
+        .iter()
+        .position(|context| context.details.level <= level)
 }
 
 /// The place of the context of this number.

@@ -138,7 +138,7 @@ fn push_removals(
 {
     let mut rest = contexts;
     while let Some((context, behind)) = rest.split_first() {
-        let (below, next) = behind.split_at(len_below(context.level, behind));
+        let (below, next) = behind.split_at(len_below(context, behind));
         push_removal(alloc, context, below, events)?;
         rest = next;
     }
@@ -159,8 +159,8 @@ fn removal_from(
     let mut events = Vec::new(alloc);
     let mut rest = contexts;
     while let Some((context, behind)) = rest.split_first() {
-        let (below, next) = behind.split_at(len_below(context.level, behind));
-        if context.user == user {
+        let (below, next) = behind.split_at(len_below(context, behind));
+        if context.user() == user {
             push_removal(alloc, context, below, &mut events)?;
         }
         rest = next;
@@ -182,7 +182,7 @@ fn push_removal(
 {
     events.push(context.realm_destroyed(alloc)?)?;
     push_realms_gone(alloc, below, events)?;
-    let info = whole_info(alloc, context, below, None)?;
+    let info = whole_info(alloc, context, below)?;
     events.push(context.destroyed(info))?;
     Ok(())
 }

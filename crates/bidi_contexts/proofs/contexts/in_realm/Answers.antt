@@ -8,7 +8,7 @@ pub returns-in_err-id_number-clause-found : goal.returns-in_err-id_number-clause
 returns-in_err-id_number-clause-found c =
     let none : c.from_residual.result ≡ None = search rules in
     ap (option_map (λ x. x.now)) none
-    ∙ sym (named-by (λ (x : Context). x.realm) _ None (λ x. x.realm_fits) c.in_err-id_number.ensures.some c.in_err-id_number.ensures.every
+    ∙ sym (named-by (λ (x : Context). x.details.value.realm) _ None (λ x. x.details.value.realm_fits) c.in_err-id_number.ensures.some c.in_err-id_number.ensures.every
     c.args.contexts.now)
 
 pub returns-in_err-id_number-clause-one : goal.returns-in_err-id_number-clause-one
@@ -17,7 +17,7 @@ returns-in_err-id_number-clause-one c = λ n m few less is too. one-read _ n m (
 pub returns-clause-found : goal.returns-clause-found
 returns-clause-found c =
     c.with_realm.ensures
-    ∙ sym (named-by (λ (x : Context). x.realm) _ _ (λ x. x.realm_fits) c.in_ok-id_number.ensures.some c.in_ok-id_number.ensures.every
+    ∙ sym (named-by (λ (x : Context). x.details.value.realm) _ _ (λ x. x.details.value.realm_fits) c.in_ok-id_number.ensures.some c.in_ok-id_number.ensures.every
     c.args.contexts.now)
 
 pub returns-clause-one : goal.returns-clause-one

@@ -23,7 +23,7 @@ loop-context-preserved-in_ok-push_removal c =
           c.in-Some.ensures.cases.0 c.len_below.ensures.is c.split_at.ensures.front c.split_at.ensures.back
           (held.invariant.told past cs s)
           (λ k level row below. removal-gone past c.args.user k (row_of c.in-Some.context.now) (seen held.events.items) (seen c.push_removal.new.events.items)
-          row c.if-context-user.true (c.in_ok-push_removal.ensures.told past k row below));
+          row (sym c.user.ensures.user ∙ c.if-user.true) (c.in_ok-push_removal.ensures.told past k row below));
       well = c.in_ok-push_removal.ensures.well held.invariant.well;
     }
 
@@ -36,7 +36,7 @@ loop-context-preserved c =
           c.in-Some.ensures.cases.0 c.len_below.ensures.is c.split_at.ensures.front c.split_at.ensures.back
           (held.invariant.told past cs s)
           (λ k level row below. removal-stays past c.args.user k (row_of c.in-Some.context.now) (seen held.events.items) (seen held.events.items)
-          row c.if-context-user.false refl);
+          row (λ same. c.if-user.false (c.user.ensures.user ∙ same)) refl);
       well = held.invariant.well;
     }
 

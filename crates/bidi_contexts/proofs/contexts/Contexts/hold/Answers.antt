@@ -26,7 +26,7 @@ below-next past items number i c n table at is next =
 pub hold-requires : goal.hold-requires
 hold-requires c =
     let at = ap (position (λ (x : Context). x.number == c.args.number)) (sym c.deref.ensures.value) ∙ (sym c.place_of.ensures ∙ c.in-Some.is) in
-    subst (λ (x : Context). HasSpare x.handles) (sym c.index_mut.ensures.value) (c.requires c.in-Some.place c.index_mut.result.now at)
+    subst (λ (x : Context). HasSpare x.details.value.handles) (sym c.index_mut.ensures.value) (c.requires c.in-Some.place c.index_mut.result.now at)
 
 pub returns-in-Some : goal.returns-in-Some
 returns-in-Some c = λ past table next.

@@ -19,5 +19,5 @@ returns c = λ past table.
     let x = live-in-hand past items a rows table.accepted lives in
     let y = live-in-hand past items b rows table.accepted other in
     alive-one past a b lives other (c.in_realm.ensures.one (realm_of past a) (realm_of past b)
-    (subst (λ n. n < 2 ^ 48) (ap (λ (r : ContextRow). r.realm) x.is) x.item.realm_fits)
-    (subst (λ n. n < 2 ^ 48) (ap (λ (r : ContextRow). r.realm) y.is) y.item.realm_fits) is too)))
+    (subst (λ n. n < 2 ^ 48) (ap (λ (r : ContextRow). r.realm) x.is) x.item.details.value.realm_fits)
+    (subst (λ n. n < 2 ^ 48) (ap (λ (r : ContextRow). r.realm) y.is) y.item.details.value.realm_fits) is too)))

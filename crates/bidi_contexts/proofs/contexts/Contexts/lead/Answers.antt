@@ -11,7 +11,7 @@ use Rattle.bidi_contexts.proofs.contexts.Contexts.lead.Goals as goal
 pub navigate-requires-clause-room : goal.navigate-requires-clause-room
 navigate-requires-clause-room c =
     let at = ap (position (λ (x : Context). x.number == c.args.number)) (sym c.deref.ensures.value) ∙ (sym c.place_of.ensures ∙ c.in-Some.is) in
-    subst (λ (x : Context). HasRoomFor x.history c.args.to) (sym c.index_mut.ensures.value) (c.requires.room c.in-Some.place c.index_mut.result.now at)
+    subst (λ (x : Context). HasRoomFor x.details.value.history c.args.to) (sym c.index_mut.ensures.value) (c.requires.room c.in-Some.place c.index_mut.result.now at)
 
 pub returns-in-Some : goal.returns-in-Some
 returns-in-Some c = λ past table leads.

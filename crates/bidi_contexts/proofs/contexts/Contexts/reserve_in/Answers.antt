@@ -15,7 +15,7 @@ returns-in-Some-clause-kept c = λ past table.
     record {
       rows =
           changed-at row_of (λ r. r) number items c.in-Some.place _ old at
-          (ap (λ e. record (row_of old) { entries = e }) c.reserve.ensures.kept ∙ ap row_of c.index_mut.ensures.value)
+          (c.reserve.ensures.kept ∙ ap row_of c.index_mut.ensures.value)
           ∙ (changed-self number _ ∙ table.rows);
       accepted = table.accepted;
     }
