@@ -2,6 +2,8 @@ pub mod EnvelopeLemmas
 pub mod ReadingLemmas
 pub mod ValueLemmas
 pub mod VerdictLemmas
+pub mod StraightLemmas
+pub mod EntryLemmas
 pub mod SendingLemmas
 pub mod CommandLemmas
 pub mod MessageLemmas

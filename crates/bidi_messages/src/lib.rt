@@ -36,8 +36,11 @@ mod envelope;
 mod event;
 mod judging;
 mod message;
+mod plain;
 mod response_reading;
 mod sending;
+mod straight;
+mod straight_entry;
 mod text;
 
 pub use bidi_methods::{

@@ -6,15 +6,17 @@ ghost use Rattle.bidi_tree.specs.Text.{tree_of, compact_text};
 ghost use Rattle.bidi_shape.specs.Term.{rule};
 ghost use Rattle.bidi_shape.specs.Fits.{Fits};
 ghost use Rattle.bidi_methods.specs.Method.{result_of};
+ghost use Rattle.bidi_methods.specs.declared.method.Method.{Method};
 ghost use Rattle.bidi_messages.specs.Message.{id_tree, response_tree, response_text, error_text, event_text};
 ghost use Rattle.bidi_messages.specs.Reading.{IsMessageText};
 ghost use Rattle.bidi_messages.specs.Payloads.{EventIsWell, ResultIsWell, event_of, event_params, result_tree};
 
 use crate::message::Message;
-use bidi_methods::{EventData, Method, Payload, ResultData};
+use crate::straight::{append_params, append_result};
+use bidi_methods::{EventData, Payload, ResultData};
 use bidi_params::ErrorCode;
 use bidi_shape::{Ext, Named, Shape};
-use bidi_tree::{JsUint, append_outline};
+use bidi_tree::JsUint;
 use std::alloc::{AllocError, Global};
 
 /// Makes the text of the response to a command: compact, its members in byte order of their names.
@@ -42,8 +44,13 @@ pub fn response_text(
     // The text is that of a message, so `read_message` accepts it.
     ensures reads_back { IfOk result (λ s. IsMessageText ⟦<Message as Shape>⟧.shape (string_bytes s)) }
 {
-    write_response(alloc, id, result_data)
+    let text = write_response(alloc, id, &result_data);
+    use_up(result_data);
+    text
 }
+
+// Drops a value where its variants are not visible.
+fn use_up<D: Drop>(_value: D) {}
 
 /// The room for the other members of a response.
 const RESPONSE_ROOM: usize = 64;
@@ -73,23 +80,18 @@ pub fn response_around(alloc: Global, id: JsUint, result_text: &str) -> Result<S
     Ok(text)
 }
 
-/// Makes the text of a response. The result is used up here, where its variants are not visible.
-fn write_response<D: Payload<Method>>(
-    alloc: Global,
-    id: JsUint,
-    result_data: D,
-) -> Result<String, AllocError>
-    requires { IsWhole (D.payload.tree_of result_data) 61 }
-    ensures text { IfOk result (λ s. string_bytes s ≡ response_text id.value (D.payload.tree_of result_data)) }
-    ensures tree { IfOk result (λ s. tree_of (string_bytes s) ≡ Some (response_tree id.value (D.payload.tree_of result_data))) }
+// Makes the text of a response.
+fn write_response(alloc: Global, id: JsUint, result_data: &ResultData) -> Result<String, AllocError>
+    requires { IsWhole (result_tree result_data.now) 61 }
+    ensures text { IfOk result (λ s. string_bytes s ≡ response_text id.value (result_tree result_data.now)) }
+    ensures tree { IfOk result (λ s. tree_of (string_bytes s) ≡ Some (response_tree id.value (result_tree result_data.now))) }
 {
     let mut digits = itoa::Buffer::new();
-    let result = result_data.outline(alloc)?;
     let mut text = String::with_capacity(alloc, ROOM)?;
     text.push_str("{\"id\":")?;
     text.push_str(digits.format(id.value))?;
     text.push_str(",\"result\":")?;
-    let mut text = append_outline(text, &result)?;
+    let mut text = append_result(alloc, text, result_data)?;
     text.push_str(",\"type\":\"success\"}")?;
     Ok(text)
 }
@@ -113,12 +115,11 @@ pub fn event_text(alloc: Global, event: &EventData) -> Result<String, AllocError
     // The event has no further members.
     let _ext = Ext::empty(alloc);
     let name = event.kind().name();
-    let params = event.outline(alloc)?;
     let mut text = String::with_capacity(alloc, ROOM)?;
     text.push_str("{\"method\":\"")?;
     text.push_str(name)?;
     text.push_str("\",\"params\":")?;
-    let mut text = append_outline(text, &params)?;
+    let mut text = append_params(alloc, text, event)?;
     text.push_str(",\"type\":\"event\"}")?;
     Ok(text)
 }
