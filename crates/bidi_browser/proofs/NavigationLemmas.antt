@@ -1,13 +1,21 @@
 -- Why a navigation in hand is that of the definitions.
 use Rattle.std.proofs.Common.{◌≡◌, ◌∙◌, ◌≤◌, ◌<◌, ◌+◌, ◌-◌, ℕ, ℤ, zero, suc, Bool, true, false, List, [], ◌∷◌, ◌++◌, length, take}
-use Rattle.std.proofs.Common.{drop, take_all, map, Option, Some, None, Ok, unwrap_or, refl, sym, ap, ap₂, subst, arith}
+use Rattle.std.proofs.Common.{drop, take_all, map, Option, Some, None, Ok, String, Global, codes, pos, string_bytes, option_map, unwrap_or, refl, sym, ap, ap₂, subst, arith}
 use Rattle.std.specs.Prelude.{min, slice_get, nat_lt, if◌then◌else◌, flat_map, option_and_then}
 use Rattle.std.proofs.lemmas.List.{append_assoc, drop_all, length-append, length-take-le, length-drop}
 use Rattle.std.proofs.lemmas.List.{drop-append-le, length-map, take-map, drop-map, map-append}
 use Rattle.std.proofs.Math.Seq.{take-append_seam, drop-append_seam}
 use Rattle.std.proofs.lemmas.Bool.Decides.{Decides-ltb}
 use Rattle.url.specs.Parts.{Parts}
-use Rattle.bidi_tree.specs.Node.{Node}
+use Rattle.bidi_tree.specs.Node.{Node, Members, put, text, whole}
+use Rattle.bidi_tree.specs.Node.{map as map_node}
+use Rattle.bidi_shape.specs.Table.{TableWell, same_some}
+use Rattle.bidi_shape.specs.ValueLaws.{others_of}
+use Rattle.bidi_shape.specs.ChoiceLaws.{nullable_shape}
+use Rattle.bidi_shape.specs.declared.ext.Ext.{Ext}
+use Rattle.bidi_shape.specs.contracts.scalars.StringShape.TheImpl as texts
+use Rattle.bidi_params.specs.declared.browsing_context.navigate.NavigationInfo.{NavigationInfo}
+use Rattle.bidi_params.specs.contracts.browsing_context.navigate.NavigationInfoShape.TheImpl as infos
 use Rattle.bidi_methods.specs.declared.event_data.EventName.{EventName}
 use Rattle.bidi_methods.specs.declared.event_data.EventName.TheVariants.{NavigationStarted, DomContentLoaded, Load}
 use Rattle.bidi_methods.specs.declared.result_data.ResultData.{ResultData}
@@ -65,6 +73,47 @@ across-leads e delta n is = by (shifted e.place delta) is
     by : (o : Option ℕ) → option_and_then (λ m. if nat_lt m (length e.urls) then Some m else None) o ≡ Some n → n < length e.urls
     by None same = absurd (cc)
     by (Some m) same = step (nat_lt m (length e.urls)) m refl same
+
+-- ---- its params once more
+
+-- a text, or null
+abbrev nullable : Option (String Global) → Node
+nullable value = (nullable_shape texts.ghosts.shape).tree_of value
+
+nullable-same : (a b : Option (String Global)) → option_map string_bytes a ≡ option_map string_bytes b → nullable a ≡ nullable b
+nullable-same None None same = refl
+nullable-same (Some a) (Some b) same = ap text (same_some same)
+nullable-same None (Some b) same = absurd (cc)
+nullable-same (Some a) None same = absurd (cc)
+
+-- the params of these parts
+abbrev again : NavigationInfo → String Global → Option (String Global) → String Global → Ext → NavigationInfo
+again v context navigation url ext = record { context = context; navigation = navigation; timestamp = v.timestamp; url = url; ext = ext }
+
+abbrev params_of : Node → Node → Node → Node → Members → Node
+params_of context navigation timestamp url others =
+    map_node (put (codes "context") context (put (codes "navigation") navigation (put (codes "timestamp") timestamp (put (codes "url") url others))))
+
+pub again-tree : (v : NavigationInfo) (context : String Global) (navigation : Option (String Global)) (url : String Global) (ext : Ext)
+    → string_bytes context ≡ string_bytes v.context → option_map string_bytes navigation ≡ option_map string_bytes v.navigation
+    → string_bytes url ≡ string_bytes v.url → others_of ext ≡ others_of v.ext → infos.ghosts.shape.tree_of (again v context navigation url ext) ≡ infos.ghosts.shape.tree_of v
+again-tree v context navigation url ext of id to others =
+    let t = whole (pos v.timestamp.value) in
+    ap (λ c. params_of c (nullable navigation) t (text (string_bytes url)) (others_of ext)) (ap text of)
+    ∙ (ap (λ n. params_of (text (string_bytes v.context)) n t (text (string_bytes url)) (others_of ext)) (nullable-same navigation v.navigation id)
+    ∙ ap₂ (λ u o. params_of (text (string_bytes v.context)) (nullable v.navigation) t u o) (ap text to) others)
+
+again-well-id : (a b : Option (String Global)) → option_map string_bytes a ≡ option_map string_bytes b → (nullable_shape texts.ghosts.shape).well b
+    → (nullable_shape texts.ghosts.shape).well a
+again-well-id None None same well = well
+again-well-id (Some a) b same well = tt
+again-well-id None (Some b) same well = absurd (cc)
+
+pub again-well : (v : NavigationInfo) (context : String Global) (navigation : Option (String Global)) (url : String Global) (ext : Ext)
+    → option_map string_bytes navigation ≡ option_map string_bytes v.navigation → others_of ext ≡ others_of v.ext
+    → infos.ghosts.shape.well v → infos.ghosts.shape.well (again v context navigation url ext)
+again-well v context navigation url ext id others well =
+    ((tt, (again-well-id navigation v.navigation id well.0.1.0, (tt, (tt, tt)))), subst (TableWell _ _) (sym others) well.1)
 
 -- ---- its events
 

@@ -1,5 +1,5 @@
 //! Plans of the commands that navigate: `navigate`, `reload` and `traverseHistory`.
-ghost use Rattle.std.specs.Prelude.{◌≡◌, ◌≤◌, ◌<◌, ◌^◌, ℕ, List, Some, IfOk, vec_len};
+ghost use Rattle.std.specs.Prelude.{◌≡◌, ◌≤◌, ◌<◌, ◌^◌, ℕ, List, Some, IfOk, option_map, string_bytes, vec_len};
 ghost use Rattle.bidi_tree.specs.Node.{no_members, text};
 ghost use Rattle.bidi_contexts.specs.Acts.{Act, Move as Led};
 ghost use Rattle.bidi_browser.specs.Asked.{navigate_asked, reload_asked, traverse_asked, wait_of};
@@ -24,8 +24,8 @@ use bidi_contexts::{Context, Move, Navigation, Occurrence, parsed, push_removals
 use bidi_handles::{IdKind, Refusal, id_text};
 use bidi_methods::{Method, ResultData};
 use bidi_params::{
-    ErrorCode, NavigateParameters, NavigateResult, ReloadParameters, TraverseHistoryParameters,
-    Wait,
+    ErrorCode, NavigateParameters, NavigateResult, NavigationInfo, ReloadParameters,
+    TraverseHistoryParameters, Wait,
 };
 use bidi_shape::{Ext, Shape};
 use bidi_tree::JsUint;
@@ -203,17 +203,43 @@ fn events(
     ensures some { IfOk result (λ all. 1 ≤ vec_len all) }
     ensures well { IfOk result (λ all. AreWell all.items) }
 {
-    let mut all = Vec::new(browser.alloc);
-    let info = context.navigation_info(browser.alloc, moment, numbers.navigation, url)?;
-    all.push(context.navigation_started(info))?;
-    push_removals_below(browser.alloc, &browser.contexts, context, &mut all)?;
-    all.push(context.realm_destroyed(browser.alloc)?)?;
-    all.push(context.realm_began(browser.alloc, numbers.realm, url)?)?;
-    let info = context.navigation_info(browser.alloc, moment, numbers.navigation, url)?;
-    all.push(context.dom_content_loaded(info))?;
-    let info = context.navigation_info(browser.alloc, moment, numbers.navigation, url)?;
+    let alloc = browser.alloc;
+    let mut all = Vec::with_capacity(alloc, EVENTS)?;
+    let info = context.navigation_info(alloc, moment, numbers.navigation, url)?;
+    all.push(context.navigation_started(again(alloc, &info)?))?;
+    push_removals_below(alloc, &browser.contexts, context, &mut all)?;
+    all.push(context.realm_destroyed(alloc)?)?;
+    all.push(context.realm_began(alloc, numbers.realm, url)?)?;
+    all.push(context.dom_content_loaded(again(alloc, &info)?))?;
     all.push(context.loaded(info))?;
     Ok(all)
+}
+
+// How many events a navigation has if no context below goes with it.
+const EVENTS: usize = 5;
+
+// The same params once more.
+fn again(alloc: Global, info: &NavigationInfo) -> Result<NavigationInfo, AllocError>
+    ensures tree { IfOk result (λ i. ⟦<NavigationInfo as Shape>⟧.shape.tree_of i ≡ ⟦<NavigationInfo as Shape>⟧.shape.tree_of info.now) }
+    ensures well { ⟦<NavigationInfo as Shape>⟧.shape.well info.now → IfOk result ⟦<NavigationInfo as Shape>⟧.shape.well }
+{
+    Ok(NavigationInfo {
+        context: String::from_str(alloc, &info.context)?,
+        navigation: copied(alloc, &info.navigation)?,
+        timestamp: info.timestamp,
+        url: String::from_str(alloc, &info.url)?,
+        ext: Ext::of(info.ext.copy_members()?),
+    })
+}
+
+// A copy of a text that may be absent.
+fn copied(alloc: Global, text: &Option<String>) -> Result<Option<String>, AllocError>
+    ensures { IfOk result (λ copy. option_map string_bytes copy ≡ option_map string_bytes text.now) }
+{
+    match text {
+        Some(text) => Ok(Some(String::from_str(alloc, text)?)),
+        None => Ok(None),
+    }
 }
 
 // The result of `navigate` and `reload`.

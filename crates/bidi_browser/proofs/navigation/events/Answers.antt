@@ -18,16 +18,16 @@ returns-clause-told c = λ past k move stands next is leads.
     let to = led_to past k move in
     let gone = c.in_ok-push_removals_below.ensures.told past k stands.contexts is in
     let first = event-told past moment k number url to NavigationStarted row _ _ is next.navigation leads
-    c.navigation_started.ensures.told c.in_ok-info.ensures.tree in
+    c.navigation_started.ensures.told (c.in_ok-again.ensures.tree ∙ c.in_ok-info.ensures.tree) in
     let ended = c.in_ok-realm_destroyed.ensures.told ∙ ap realm_destroyed_in is in
     let begun = realm-told past k c.args.numbers.realm move url row _ is next.realm leads c.in_ok-realm_began.ensures.told in
     let there = event-told past moment k number url to DomContentLoaded row _ _ is next.navigation leads c.dom_content_loaded.ensures.told
-    c.in_ok-info-2.ensures.tree in
-    let loaded = event-told past moment k number url to Load row _ _ is next.navigation leads c.loaded.ensures.told c.in_ok-info-3.ensures.tree in
-    all-told past moment k move (seen c.new-all.result.items) (seen c.push.new.self.items) (seen c.push_removals_below.new.events.items)
+    (c.in_ok-again-2.ensures.tree ∙ c.in_ok-info.ensures.tree) in
+    let loaded = event-told past moment k number url to Load row _ _ is next.navigation leads c.loaded.ensures.told c.in_ok-info.ensures.tree in
+    all-told past moment k move (seen c.in_ok-all.all.items) (seen c.push.new.self.items) (seen c.push_removals_below.new.events.items)
     (seen c.push-2.new.self.items) (seen c.push-3.new.self.items) (seen c.push-4.new.self.items)
-    (seen c.push-5.new.self.items) (ap seen c.new-all.ensures.items)
-    (one-told c.new-all.result.items c.push.new.self.items _ _ c.in_ok-push.ensures.items (ap (λ o. o ∷ []) first))
+    (seen c.push-5.new.self.items) (ap seen c.in_ok-all.ensures.items)
+    (one-told c.in_ok-all.all.items c.push.new.self.items _ _ c.in_ok-push.ensures.items (ap (λ o. o ∷ []) first))
     gone
     (one-told c.push_removals_below.new.events.items c.push-2.new.self.items _ _ c.in_ok-push-2.ensures.items (ap (λ o. o ∷ []) ended))
     (one-told c.push-2.new.self.items c.push-3.new.self.items _ _ c.in_ok-push-3.ensures.items (ap (λ o. o ∷ []) begun))
@@ -37,10 +37,10 @@ returns-clause-told c = λ past k move stands next is leads.
 pub returns-clause-well : goal.returns-clause-well
 returns-clause-well c =
     let more = AllByRecursion-more (λ o. ghosts.payload.well o.event) in
-    let none = subst AreWell (sym c.new-all.ensures.items) tt in
-    let first = more _ _ _ c.in_ok-push.ensures.items none (c.navigation_started.ensures.well c.in_ok-info.ensures.well) in
+    let none = subst AreWell (sym c.in_ok-all.ensures.items) tt in
+    let first = more _ _ _ c.in_ok-push.ensures.items none (c.navigation_started.ensures.well (c.in_ok-again.ensures.well c.in_ok-info.ensures.well)) in
     let gone = c.in_ok-push_removals_below.ensures.well first in
     let ended = more _ _ _ c.in_ok-push-2.ensures.items gone c.in_ok-realm_destroyed.ensures.well in
     let begun = more _ _ _ c.in_ok-push-3.ensures.items ended c.in_ok-realm_began.ensures.well in
-    let there = more _ _ _ c.in_ok-push-4.ensures.items begun (c.dom_content_loaded.ensures.well c.in_ok-info-2.ensures.well) in
-    more _ _ _ c.in_ok-push-5.ensures.items there (c.loaded.ensures.well c.in_ok-info-3.ensures.well)
+    let there = more _ _ _ c.in_ok-push-4.ensures.items begun (c.dom_content_loaded.ensures.well (c.in_ok-again-2.ensures.well c.in_ok-info.ensures.well)) in
+    more _ _ _ c.in_ok-push-5.ensures.items there (c.loaded.ensures.well c.in_ok-info.ensures.well)
