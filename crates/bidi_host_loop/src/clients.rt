@@ -189,21 +189,36 @@ impl Hosted {
         world: &mut W,
         taken: Recorded,
     ) -> Result<(), HostingFault> {
-        let Recorded { line, outcome } = taken;
         self.note_session()?;
-        world.record(line.as_str())?;
+        world.record(taken.line.as_str())?;
+        self.bring_about(world, taken.outcome)
+    }
+
+    // Does what an input brings about.
+    fn bring_about<W: Surroundings>(
+        &mut self,
+        world: &mut W,
+        outcome: Outcome,
+    ) -> Result<(), HostingFault> {
         match outcome {
-            Outcome::OfMachine(sent) => {
-                for one in sent {
-                    let followers = self.host.followers_of(&one)?;
-                    self.hand_on(world, one)?;
-                    self.hand_on_all(world, followers)?;
-                }
-                Ok(())
-            }
+            Outcome::OfMachine(sent) => self.hand_on_with_followers(world, sent),
             Outcome::Sent(sent) => self.hand_on_all(world, sent),
             other => self.carry_out(world, other),
         }
+    }
+
+    // Sends each message to its connection, and what follows it behind it.
+    fn hand_on_with_followers<W: Surroundings>(
+        &mut self,
+        world: &mut W,
+        messages: Vec<Sent>,
+    ) -> Result<(), HostingFault> {
+        for one in messages {
+            let followers = self.host.followers_of(&one)?;
+            self.hand_on(world, one)?;
+            self.hand_on_all(world, followers)?;
+        }
+        Ok(())
     }
 
     // Sends each message to its connection.
