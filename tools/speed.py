@@ -1,13 +1,14 @@
 #!/usr/bin/env python3
 """Measures one or two builds of `bidi` by turns:
-speed.py [--growth | --instructions | --rows] [--times N] [--only NAME,..] BEFORE [AFTER]
+speed.py [--growth | --instructions | --lines | --rows] [--times N] [--only NAME,..] BEFORE [AFTER]
 
 BEFORE and AFTER are words that start a program. `workloads.py` writes each input, and each program reads it N times.
 The table has the least seconds of processor, with those of the system, and the most memory; the output is thrown away meanwhile.
 Then they run once more side by side. The last column of two programs says whether their outputs differ. Below the table stands each
 input for which they do, or for which something is refused that should be done; the status is 1 then. With --growth it prints the
 microseconds of a line beside few and many, and with --instructions the instructions of a line, which valgrind counts. Those do not
-depend on what else the machine does. With --rows it prints the instructions of a status in a play, in a scripted play, and beside rows.
+depend on what else the machine does. With --lines it prints the instructions of a line of each workload, and which share of BEFORE's are
+AFTER's. With --rows it prints the instructions of a status in a play, in a scripted play, and beside rows.
 """
 import argparse
 import ctypes
@@ -20,10 +21,11 @@ import tempfile
 import workloads
 
 # A name of `workloads.py`, a count, and a size where it is not the usual one.
-WORKLOADS = """events 500000, turns 300000, refused 300000, pair 100000, connections 300000, sessions_come 50000, contexts 1008, frames 20000,
-creates 10, looks 20000, navigate_last 20000, navigate 100000, evaluate 200000 10, evaluate 100000 1000, evaluate 200 1000000, cut 100000,
-call 100000 10, call 50000 1000, call 100 1000000, numbers 20, handles 50000, subscribe 50000, subscribe_tabs 500,
-unheard 20000, users 5000, log 100000, fan 20000"""
+WORKLOADS = """events 500000, shown 500000, misfits 100000, turns 300000, refused 300000, pair 100000, connections 300000, sessions_come 50000,
+contexts 1008, frames 20000, creates 10, looks 20000, navigate_last 20000, navigate 100000, reduced 100000, evaluate 200000 10,
+evaluate 100000 1000, evaluate 200 1000000, values 100000, values 1000 100000, cut 100000, call 100000 10, call 50000 1000, call 100 1000000,
+numbers 20, handles 50000, subscribe 50000, subscribe_tabs 500, unheard 20000, users 5000, log 100000, heard 100000, heard_by_all 10000,
+fan 20000"""
 # What grows, through which sizes, and for each name a count; a count times a size passes no 200,000,000.
 GROWTH = [
     ("contexts", [16, 64, 256, 1023], "frames 20000, looks 20000, navigate_last 20000, subscribe_tabs 500"),
@@ -33,13 +35,21 @@ GROWTH = [
     ("bytes", [10, 1000, 100000, 1000000], "evaluate 100000, call 100000"),
 ]
 # What reads an input of that name, where it is not `bidi play`.
-READERS = {"events": ["check", "--from", "remote"], "pair": ["pair"]}
+READERS = {
+    "events": ["check", "--from", "remote"],
+    "shown": ["show", "--from", "remote"],
+    "misfits": ["check", "--from", "remote", "--why"],
+    "pair": ["pair"],
+    "reduced": ["reduce", "--session", "1"],
+}
+# The inputs in which something is refused, with the status of a program that reads them.
+MEANT = {"refused": 0, "misfits": 1}
 REFUSED = [b'"type":"error"', b"no effect\n", b"denied ", b"lost ", b" waiting\n", b" unsent ", b": no fit\n"]
 
 
 def make(given, name, *numbers):
     """Writes the input of these words, and gives its lines."""
-    given.name = name
+    given.name, given.status = name, MEANT.get(name, 0)
     given.commands = [program + READERS.get(name, ["play"]) for program in given.programs]
     with open(given.input.name, "w") as file:
         return workloads.write(file, name, *numbers)
@@ -50,7 +60,7 @@ def run(command, path):
     # A process begins with the memory of who starts it. So a small shell does, and leaves it to this process by its own end.
     subprocess.run(["/bin/sh", "-c", '"$@" < "$0" > /dev/null &', path, *command], check=True)
     _, status, usage = os.wait4(-1, 0)
-    if status:
+    if os.waitstatus_to_exitcode(status) != given.status:
         raise SystemExit(f"{shlex.join(command)}: status {os.waitstatus_to_exitcode(status)}")
     return usage.ru_utime + usage.ru_stime, usage.ru_maxrss / 1024
 
@@ -70,7 +80,7 @@ def fault(given):
         text, rest = rest + parts[0], parts[0][-20:]
         if parts[0] != parts[-1]:
             found = f"line {line + os.path.commonprefix(parts).count(10)} differs"
-        elif given.name != "refused" and any(word in text for word in REFUSED):
+        elif given.name not in MEANT and any(word in text for word in REFUSED):
             found = "something is refused"
         line += parts[0].count(10)
     for end in ends:
@@ -117,9 +127,9 @@ def growth(given, chosen):
 def count_instructions(command, path):
     """The instructions of a command over that file."""
     tool = ["valgrind", "--tool=callgrind", "--callgrind-out-file=/dev/null", *command]
-    run = subprocess.run(tool, stdin=open(path, "rb"), stdout=subprocess.DEVNULL, stderr=subprocess.PIPE, text=True, check=True)
+    run = subprocess.run(tool, stdin=open(path, "rb"), stdout=subprocess.DEVNULL, stderr=subprocess.PIPE, text=True)
     found = re.search(r"Collected : (\d+)", run.stderr)
-    if not found:
+    if run.returncode != given.status or not found:
         raise SystemExit(f"valgrind counts nothing of {shlex.join(command)}")
     return int(found[1])
 
@@ -151,6 +161,21 @@ def instructions(given, chosen):
                 row(title, what, f"{sizes[0]}: {small:,.0f}", f"{sizes[-1]}: {large:,.0f}", f"{large / small:.2f}")
 
 
+def lines(given, chosen):
+    """Prints the instructions of a line of each input: the difference between a small input and one in which what is repeated comes twice as often."""
+    strip(given)
+    two = len(given.programs) > 1
+    row("a line of", *(["before", "after", "share"] if two else ["instructions"]))
+    row(*["---"] * (4 if two else 2))
+    for name, most, *size in chosen(WORKLOADS):
+        few, ends = max(int(most) // 500, 1), []
+        for count in (few, 2 * few):
+            ends.append((make(given, name, count, *size), [count_instructions(it, given.input.name) for it in given.commands]))
+        (short, small), (long, large) = ends
+        each = [(b - a) / (long - short) for a, b in zip(small, large)]
+        row(" ".join([name, *size]), *(f"{it:,.0f}" for it in each), *[f"{each[-1] / each[0]:.2f}"] * two)
+
+
 def rows(given, chosen):
     """Prints the instructions of a status in a play, in a scripted play, and beside rows of other methods; and the shares of the first."""
     strip(given)
@@ -176,12 +201,15 @@ words = argparse.ArgumentParser(usage=__doc__)
 words.add_argument("programs", nargs="+", type=shlex.split)
 words.add_argument("--growth", action="store_true")
 words.add_argument("--instructions", action="store_true")
+words.add_argument("--lines", action="store_true")
 words.add_argument("--rows", action="store_true")
 words.add_argument("--times", type=int, default=3)
 words.add_argument("--only", type=lambda text: text.split(","))
 given = words.parse_args()
+given.status = 0
 ctypes.CDLL(None).prctl(36, 1)  # PR_SET_CHILD_SUBREAPER
 with tempfile.NamedTemporaryFile() as given.input, tempfile.TemporaryDirectory() as given.folder:
     pick = lambda text: [it.split() for it in text.split(",") if not given.only or it.split()[0] in given.only]
-    table = growth if given.growth else instructions if given.instructions else rows if given.rows else measure
+    tables = {"growth": growth, "instructions": instructions, "lines": lines, "rows": rows}
+    table = next((tables[it] for it in tables if getattr(given, it)), measure)
     raise SystemExit(table(given, pick))

@@ -1,12 +1,14 @@
 #!/usr/bin/env python3
 """Writes an input of `bidi` in which what is measured comes many times: workloads.py NAME COUNT [SIZE]
 
-`events` is for `bidi check --from remote`, `pair` for `bidi pair`, and all others for `bidi play`. SIZE is how much stands beside, or how
-long the text is; a name has a usual one.
+`events` is for `bidi check --from remote`, `shown` for `bidi show --from remote`, `misfits` for `bidi check --from remote --why`, `pair`
+for `bidi pair`, `reduced` for `bidi reduce --session 1`, and all others for `bidi play`. SIZE is how much stands beside, or how long the
+text is; a name has a usual one.
 
 | NAME | COUNT | SIZE |
 |---|---|---|
-| events | lines of an event | |
+| events, shown | lines of an event | |
+| misfits | lines of an event whose name there is not | |
 | turns | moments and statuses by turns | |
 | refused | commands of a method that there is none of | |
 | pair | commands over 8 links, of which 100 wait on each at once | |
@@ -17,9 +19,10 @@ long the text is; a name has a usual one.
 | creates | times that tabs come and go, the oldest first | tabs, up to 1,023 |
 | looks | looks at the last tab alone | tabs, up to 1,024 |
 | navigate_last | navigations of the last tab, unheard | tabs, up to 1,024 |
-| navigate | navigations of which a session hears five events each | |
+| navigate, reduced | navigations of which a session hears five events each | |
 | evaluate | evaluates of a text | bytes, up to 1,000,000 |
-| cut | evaluates of a list of numbers, at depth 1 | bytes, up to 1,000,000 |
+| values | evaluates of a list of numbers | bytes, up to 1,000,000 |
+| cut | the same, at depth 1 | bytes, up to 1,000,000 |
 | call | calls that give their argument back, a text | bytes, up to 1,000,000 |
 | numbers | calls with a list of numbers | numbers, up to 33,000 |
 | handles | handles that are given and disowned | handles that stay, up to 999 |
@@ -28,6 +31,8 @@ long the text is; a name has a usual one.
 | unheard | navigations that nobody hears | subscriptions of each of 8 sessions, up to 256 |
 | users | lists of all user contexts | user contexts, up to 64 |
 | log | lines that 8 sessions miss, and then as many that their 64 connections hear | |
+| heard | lines of the log that a session hears on one connection | |
+| heard_by_all | lines of the log that 64 connections hear | |
 | fan | frames that come and go, heard by 64 connections | |
 """
 import sys
@@ -129,6 +134,14 @@ def events(count):
     return [EVENT] * count
 
 
+def shown(count):
+    return events(count)
+
+
+def misfits(count):
+    return [EVENT.replace("log.entryAdded", "log.entryMissed")] * count
+
+
 def turns(count):
     yield opened(1)
     for it in range(1, count + 1):
@@ -191,14 +204,22 @@ def navigate(count):
     yield from navigations(count, context(1))
 
 
+def reduced(count):
+    return navigate(count)
+
+
 def evaluate(count, size=1000):
     return [*new_session(1), ROW % ('"page()"', f'"returns":{text_of(size)}'), *[evaluation("none")] * count]
 
 
-def cut(count, size=1000):
+def values(count, size=1000, options=""):
     items = ",".join('{"type":"number","value":7}' for _ in range(size // 28))
     row = ROW % ('"page()"', f'"returns":{{"type":"array","value":[{items}]}}')
-    return [*new_session(1), row, *[evaluation("none", ',"serializationOptions":{"maxObjectDepth":1}')] * count]
+    return [*new_session(1), row, *[evaluation("none", options)] * count]
+
+
+def cut(count, size=1000):
+    return values(count, size, ',"serializationOptions":{"maxObjectDepth":1}')
 
 
 def call(count, size=1000):
@@ -244,13 +265,21 @@ def log(count):
         yield from part
 
 
+def heard(count):
+    return [*new_session(1), command(1, "session.subscribe", LOG), *entries(count)]
+
+
+def heard_by_all(count):
+    return [*new_sessions(), *subscribe_each(LOG), *entries(count)]
+
+
 def fan(count):
     yield from [*new_sessions(), *subscribe_each(BIRTHS)]
     yield from passing_frames(count, context(1), 1)
 
 
-NAMES = [events, turns, refused, pair, connections, sessions_come, contexts, frames, creates, looks, navigate_last, navigate, evaluate, cut,
-         call, numbers, handles, subscribe, subscribe_tabs, unheard, users, log, fan]
+NAMES = [events, shown, misfits, turns, refused, pair, connections, sessions_come, contexts, frames, creates, looks, navigate_last, navigate,
+         reduced, evaluate, values, cut, call, numbers, handles, subscribe, subscribe_tabs, unheard, users, log, heard, heard_by_all, fan]
 WORKLOADS = {it.__name__: it for it in NAMES}
 
 
