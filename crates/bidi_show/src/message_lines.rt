@@ -16,7 +16,7 @@ ghost use Rattle.bidi_lines.specs.declared.side.Side.TheVariants.{Remote};
 use bidi_lines::Side;
 use bidi_messages::{
     Command, ErrorCode, ErrorResponse, Event, Message, MessageFault, Method, Named, Response,
-    Sendable, Verdict, judge_with, message_of, response_id, text_of,
+    Sendable, Verdict, event_text, judge_with, message_of, response_id, text_of,
 };
 use bidi_shape::Shape;
 use bidi_tree::{JsUint, ReadFault, outline_parsed, parse, write_outline};
@@ -308,10 +308,33 @@ fn event_line(alloc: Global, event: Event) -> Result<String, AllocError>
         ++ 32 ∷ compact_text (⟦<Event as Shape>⟧.shape.tree_of event)) }
 {
     let event_name = event.data.event();
-    let text = text_for(alloc, event)?;
-    let name = event_name.name();
-    format!(in alloc; "event {name} {text}")
+    let text = text_of_event(alloc, &event);
+    use_up(event);
+    let text = text?;
+    let mut line = String::with_capacity(alloc, text.len().saturating_add(LONGEST_HEAD))?;
+    line.push_str("event ")?;
+    line.push_str(event_name.name())?;
+    line.push_str(" ")?;
+    line.push_str(&text)?;
+    Ok(line)
 }
+
+// The room for what stands in front of the text of an event.
+const LONGEST_HEAD: usize = 64;
+
+// Makes the text of an event. One without further members takes less.
+fn text_of_event(alloc: Global, event: &Event) -> Result<String, AllocError>
+    requires { ⟦<Event as Shape>⟧.shape.well event.now }
+    ensures { IfOk result (λ s. string_bytes s ≡ compact_text (⟦<Event as Shape>⟧.shape.tree_of event.now)) }
+{
+    if event.ext.members.len() == 0 {
+        return event_text(alloc, &event.data);
+    }
+    text_of(alloc, event)
+}
+
+// Drops a message where its variants are not visible.
+fn use_up<M: Drop>(_message: M) {}
 
 // ---- messages of both ends
 
