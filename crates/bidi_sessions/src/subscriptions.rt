@@ -104,10 +104,11 @@ pub fn numbers_of(
 fn number_of(subscriptions: &[Subscription], session: u32, id: &str) -> Option<u32>
     ensures { result ≡ option_map (λ s. s.number) (find (λ s. bytes_eq id.now (id_text IdKind.Subscription session s.number)) subscriptions.now) }
 {
-    let number = id_number(id, IdKind::Subscription, session);
+    // The greatest number stands for none: no subscription has it.
+    let number = id_number(id, IdKind::Subscription, session).unwrap_or(u64::MAX);
     subscriptions
         .iter()
-        .find(|s| Some(u64::from(s.number)) == number)
+        .find(|s| u64::from(s.number) == number)
         .map(|s| s.number)
 }
 
@@ -129,11 +130,14 @@ pub(crate) fn cancel(subscriptions: &mut Vec<Subscription>, numbers: &[u32])
     subscriptions.retain(|s| !is_listed(numbers, s.number));
 }
 
-/// Whether the number is one of these.
+/// Whether the number is one of these. One alone, as most often, takes no loop.
 pub(crate) fn is_listed(numbers: &[u32], number: u32) -> bool
     ensures { result ≡ is_listed numbers.now number }
 {
-    numbers.iter().any(|n| *n == number)
+    match numbers {
+        [one] => *one == number,
+        _ => numbers.iter().any(|n| *n == number),
+    }
 }
 
 /// Removes these events from each global subscription, and with its last event the subscription itself.
