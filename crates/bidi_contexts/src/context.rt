@@ -14,7 +14,7 @@ use url::Url;
 pub struct Context {
     /// The number of the context, from which its id is made.
     pub(crate) number: u64,
-    /// What else it has. It stands in a block of its own, so that a table of contexts is quick to search and to move.
+    /// What else it has. It stands in a block of its own, so that contexts are small to move within their table.
     pub(crate) details: Box<Details>,
     // The number can stand in an id.
     ghost number_fits: { number < 2 ^ 48 },

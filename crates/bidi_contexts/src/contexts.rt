@@ -113,6 +113,9 @@ impl Contexts {
     /// depth. `None` is the whole depth.
     ///
     /// Looks for what stands below the context, but at depth 0, which shows no children. Makes a text for each id.
+    ///
+    /// # Errors
+    /// No memory: an allocation failed.
     pub fn tree_text(&self, context: &Context, depth: Option<u64>) -> Result<String, AllocError>
         // For every past that the table stands for, the one Info is that of the context to the depth.
         ensures { IfOk result (λ s. TellsInfos (string_bytes s)
@@ -133,6 +136,9 @@ impl Contexts {
     }
 
     /// The same of the Infos of all top-level contexts.
+    ///
+    /// # Errors
+    /// No memory: an allocation failed.
     pub fn trees_text(&self, depth: Option<u64>) -> Result<String, AllocError>
         // For every past that the table stands for, the Infos are those of the live top-level contexts to the depth, by creation.
         ensures { IfOk result (λ s. TellsInfos (string_bytes s)

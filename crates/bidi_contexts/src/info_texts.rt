@@ -22,6 +22,9 @@ use bidi_handles::{IdKind, id_text};
 use json::Writer;
 use std::alloc::{AllocError, Global};
 
+/// The room that a text starts with: that of one Info without children. It grows as needed.
+const ROOM: usize = 512;
+
 // ---- whole texts
 
 /// The text of the Infos of all top-level contexts to this depth, of all contexts in tree order: `{"contexts":[..]}`.
@@ -60,7 +63,7 @@ fn begun(alloc: Global) -> Result<Writer, AllocError>
     ensures before { IfOk result (λ out. out.before ≡ []) }
     ensures tokens { IfOk result (λ out. out.tokens ≡ begin_object ∷ key (codes "contexts") ∷ begin_array ∷ []) }
 {
-    let mut out = Writer::new(Vec::new(alloc));
+    let mut out = Writer::new(Vec::with_capacity(alloc, ROOM)?);
     out.begin_object()?;
     out.key("contexts")?;
     out.begin_array()?;
