@@ -10,6 +10,7 @@ use Rattle.bidi_tree.specs.Node.{Node, null, text, levels, items_levels, has_odd
 use Rattle.bidi_tree.specs.Data.{tokens_of, items_tokens}
 use Rattle.bidi_tree.specs.Text.{compact_text}
 use Rattle.bidi_tree.specs.View.{items_of}
+use Rattle.bidi_tree.proofs.PartLemmas.{behind}
 use Rattle.bidi_tree.proofs.RoundTrip.{print-tokens_of}
 use Rattle.bidi_shape.specs.Name.{info}
 use Rattle.bidi_shape.specs.Term as term
@@ -26,10 +27,6 @@ use Rattle.bidi_contexts.specs.ContextRows.{ContextRow, url_in, shown_info}
 use Rattle.bidi_contexts.specs.InfosWritten.{IsInfo, AreInfos, AreChildren, parent_at, member_tokens, WroteInfos, WroteChildren, TellsInfos, infos_tree}
 
 -- ---- tokens
-
--- a part is written behind another
-pub behind : {A : Type 0} {s1 s2 : List A} (s0 a b : List A) → s1 ≡ s0 ++ a → s2 ≡ s1 ++ b → s2 ≡ s0 ++ (a ++ b)
-behind s0 a b first second = second ∙ (ap (λ s. s ++ b) first ∙ append_assoc s0 a b)
 
 -- what holds once all is written
 pub on-ok : {E A B : Type 0} (r : Result (Unit {0}) E) → OnOk r A → (A → B) → OnOk r B

@@ -4,6 +4,7 @@ use Rattle.std.proofs.Common.{◌≡◌, ◌∙◌, ◌++◌, ℕ, Bool, true, f
 use Rattle.json.specs.Print.{escape, escape_byte}
 use Rattle.bidi_tree.specs.Node.{Node, no_members, member, map, text, whole, has_odd, IsSound, IsWritable}
 use Rattle.bidi_tree.specs.Text.{compact_text}
+use Rattle.bidi_tree.proofs.PartLemmas.{behind}
 use Rattle.bidi_shape.specs.ListLaws.{list_tree}
 use Rattle.bidi_values.specs.Content.{content}
 use Rattle.bidi_values.specs.NestedLaws.{nested_shape}
@@ -15,7 +16,7 @@ use Rattle.bidi_scripts.specs.declared.log_entry.Level.TheVariants.{Debug, Info,
 use Rattle.bidi_scripts.specs.declared.log_entry.Source.{Source}
 use Rattle.bidi_scripts.specs.contracts.log_entry.ConsoleEntryShape.TheImpl as entries
 use Rattle.bidi_scripts.specs.contracts.log_entry.SourceShape.TheImpl as sources
-use Rattle.bidi_messages.proofs.StraightLemmas.{behind, closed, nullable, nullable-sound}
+use Rattle.bidi_messages.proofs.StraightLemmas.{closed, nullable, nullable-sound}
 
 -- what the console was given
 abbrev args_of : ConsoleEntry → Node

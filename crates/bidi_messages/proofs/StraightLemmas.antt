@@ -9,6 +9,7 @@ use Rattle.std.proofs.lemmas.List.{take_more}
 use Rattle.json.specs.Print.{escape, escape_byte}
 use Rattle.bidi_tree.specs.Node.{Node, no_members, map, text, IsSound}
 use Rattle.bidi_tree.specs.Text.{compact_text}
+use Rattle.bidi_tree.proofs.PartLemmas.{behind}
 use Rattle.bidi_shape.specs.Table.{same_some}
 use Rattle.bidi_shape.specs.ValueLaws.{others_of}
 use Rattle.bidi_shape.specs.ChoiceLaws.{nullable_shape}
@@ -43,10 +44,6 @@ nothing (x ∷ xs) e = absurd (cc)
 -- without entries there are no further members
 pub none-further : (e : Ext) (n : ℕ) → n ≡ length e.members.entries → IsTrue (eqb n 0) → others_of e ≡ no_members
 none-further e n is none = rw (nothing e.members.entries (sym is ∙ eqb-true n 0 none)) refl
-
--- a part behind another
-pub behind : {A : Type 0} {s1 s2 : List A} (s0 a b : List A) → s1 ≡ s0 ++ a → s2 ≡ s1 ++ b → s2 ≡ s0 ++ (a ++ b)
-behind s0 a b first second = second ∙ (ap (λ s. s ++ b) first ∙ append_assoc s0 a b)
 
 -- no byte is escaped but a control character, a quotation mark and a reverse solidus
 plain-byte : (b : ℕ) → 32 ≤ b → (b ≡ 34 → ⊥) → (b ≡ 92 → ⊥) → escape_byte b ≡ b ∷ []

@@ -1,5 +1,6 @@
 pub mod TreeLemmas
 pub mod CompactLemmas
+pub mod PartLemmas
 pub mod RoundTrip
 pub mod SoundLemmas
 pub mod MemberLemmas

@@ -7,11 +7,14 @@ ghost use Rattle.bidi_tree.specs.Outline.{outline_node, outline_items, outline_m
 ghost use Rattle.bidi_tree.specs.Json.{parsed, json_items, put_all, number_in};
 
 use crate::number_text::whole_number;
-use crate::outline::{Outline, OutlineMembers};
+use crate::outline::{Outline, OutlineMembers, put_outline};
 use crate::sorted::Sorted;
 use json::Value;
 use std::alloc::{AllocError, Global};
 use std::collections::BTreeMap;
+
+/// How many members are put in order without a map.
+const FEW: usize = 16;
 
 /// Makes the outline of a JSON value. No string is copied.
 ///
@@ -46,9 +49,39 @@ fn outlines_parsed<'a>(
     Ok(outlines)
 }
 
-// A map of its own puts the names in order. It is dropped when its entries have been moved out.
 #[cycle(outline_parsed)]
 fn members_parsed<'a>(
+    alloc: Global,
+    members: &Vec<(&'a str, Value<'a>)>,
+) -> Result<OutlineMembers<'a>, AllocError>
+    ensures { IfOk result (λ ms. outline_members ms ≡ put_all (members_view members.now.items) no_members) }
+{
+    if members.len() <= FEW {
+        few_parsed(alloc, members)
+    } else {
+        many_parsed(alloc, members)
+    }
+}
+
+// Each is compared with those that stand last.
+#[cycle(outline_parsed)]
+fn few_parsed<'a>(
+    alloc: Global,
+    members: &Vec<(&'a str, Value<'a>)>,
+) -> Result<OutlineMembers<'a>, AllocError>
+    ensures { IfOk result (λ ms. outline_members ms ≡ put_all (members_view members.now.items) no_members) }
+{
+    let mut sorted = Sorted::with_capacity(alloc, members.len())?;
+    for member in members {
+        let outline = outline_parsed(alloc, &member.1)?;
+        put_outline(&mut sorted, member.0, outline)?;
+    }
+    Ok(sorted)
+}
+
+// A map of its own puts the names in order. It is dropped when its entries have been moved out.
+#[cycle(outline_parsed)]
+fn many_parsed<'a>(
     alloc: Global,
     members: &Vec<(&'a str, Value<'a>)>,
 ) -> Result<OutlineMembers<'a>, AllocError>
