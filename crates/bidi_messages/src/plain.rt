@@ -19,12 +19,12 @@ pub(crate) fn is_empty(ext: &Ext) -> bool
 pub(crate) fn has_no_escape(text: &str) -> bool
     ensures { IsTrue result → escape text.now ≡ text.now }
 {
+    let mut plain = true;
+    // No way out, so that many bytes are looked at at once.
     for byte in text.as_bytes() {
-        if *byte < 0x20 || *byte == b'"' || *byte == b'\\' {
-            return false;
-        }
+        plain &= (*byte >= 0x20) & (*byte != b'"') & (*byte != b'\\');
     }
-    true
+    plain
 }
 
 /// Whether a string of JSON escapes none of these bytes, if there are any.

@@ -8,6 +8,7 @@ use crate::plain::{has_no_escape, has_no_escape_if_there, push_nullable};
 use bidi_scripts::{ConsoleEntry, LogEntry, Source};
 use bidi_shape::{Named, Shape};
 use bidi_tree::append_outline;
+use bidi_values::RemoteValue;
 use std::alloc::{AllocError, Global};
 
 /// Appends the compact text of a log entry.
@@ -58,10 +59,9 @@ fn append_console(alloc: Global, text: String, entry: &ConsoleEntry) -> Result<S
     ensures sound { OnOk result (IsSound (⟦<ConsoleEntry as Shape>⟧.shape.tree_of entry.now)) }
 {
     let mut digits = itoa::Buffer::new();
-    let args = entry.args.outline(alloc)?;
     let mut text = text;
     text.push_str("{\"args\":")?;
-    let mut text = append_outline(text, &args)?;
+    let mut text = append_args(alloc, text, &entry.args)?;
     text.push_str(",\"level\":\"")?;
     text.push_str(entry.base.level.name())?;
     text.push_str("\",\"method\":\"")?;
@@ -74,6 +74,16 @@ fn append_console(alloc: Global, text: String, entry: &ConsoleEntry) -> Result<S
     text.push_str(digits.format(entry.base.timestamp.value))?;
     text.push_str(",\"type\":\"console\"}")?;
     Ok(text)
+}
+
+// Appends the text of what the console was given.
+fn append_args(alloc: Global, text: String, args: &Vec<RemoteValue>) -> Result<String, AllocError>
+    requires { IsWritable (⟦<Vec<RemoteValue> as Shape>⟧.shape.tree_of args.now) }
+    ensures text { IfOk result (λ s. string_bytes s ≡ string_bytes text ++ compact_text (⟦<Vec<RemoteValue> as Shape>⟧.shape.tree_of args.now)) }
+    ensures sound { OnOk result (IsSound (⟦<Vec<RemoteValue> as Shape>⟧.shape.tree_of args.now)) }
+{
+    let outline = args.outline(alloc)?;
+    append_outline(text, &outline)
 }
 
 // Appends the text of the source of an entry.
