@@ -31,7 +31,9 @@ impl Taken {
         ensures { (waiting : Pending) → IsSettledBy waiting (meaning_of self.received) self.method
             → IsOutcomeOf waiting (meaning_of self.received) result }
     {
-        self.in_short()
+        let outcome = self.in_short();
+        use_up(self);
+        outcome
     }
 
     // Gives the meaning in short of a message that is borrowed.
@@ -48,6 +50,9 @@ impl Taken {
         }
     }
 }
+
+// Drops a message where its variants are not visible.
+fn use_up<M: Drop>(_message: M) {}
 
 // The outcome of a bad result for a command of this method.
 fn bad_result(id: JsUint, method: Option<Method>) -> Outcome

@@ -136,9 +136,13 @@ fn params_text(alloc: Global, event: EventData) -> Result<String, AllocError>
     requires { EventIsWell event }
     ensures { IfOk result (λ text. string_bytes text ≡ compact_text (event_params event)) }
 {
-    let tree = event.tree_of(alloc)?;
-    compact(alloc, tree)
+    let tree = event.tree_of(alloc);
+    use_up(event);
+    compact(alloc, tree?)
 }
+
+// Drops an event where its variants are not visible.
+fn use_up<E: Drop>(_event: E) {}
 
 // The line of an event.
 fn told_event(alloc: Global, link: JsUint, name: &str, text: &str) -> Result<String, AllocError>

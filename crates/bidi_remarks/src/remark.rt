@@ -7,7 +7,7 @@ ghost use Rattle.bidi_lines.specs.declared.side.Side.TheVariants.{Local, Remote}
 ghost use Rattle.bidi_remarks.specs.Trouble.{misfit_of, no_fit, trouble_of};
 ghost use Rattle.bidi_remarks.specs.Remark as told;
 ghost use Rattle.bidi_remarks.specs.Remark.{at_words, failure_row, misfit_at, remark_cause, remark_line, remark_of, unanswered_line, within};
-ghost use Rattle.bidi_remarks.specs.Texts.{json_line, words_line};
+ghost use Rattle.bidi_remarks.specs.Texts.{answers_words, json_line, words_line};
 
 use crate::bad_text::BadText;
 use crate::claim::Kind;
@@ -129,11 +129,18 @@ pub fn no_message(
     // The remark has the fault in brief, the command that the text answers, and the reason.
     ensures { IfOk result (λ r. remark_of r ≡ told.no_message answers brief.now (trouble_of why)) }
 {
-    let brief = match answers {
-        Some(id) => format!(in alloc; "{brief} (answers {id})")?,
-        None => String::from_str(alloc, brief)?,
-    };
+    let brief = answering(alloc, brief, answers)?;
     Ok(Remark::Fault(Some(Side::Remote), answers, brief, why))
+}
+
+// The words, with the command that is answered, if there is one.
+fn answering(alloc: Global, brief: &str, answers: Option<u64>) -> Result<String, AllocError>
+    ensures { IfOk result (λ s. string_bytes s ≡ brief.now ++ answers_words answers) }
+{
+    match answers {
+        Some(id) => format!(in alloc; "{brief} (answers {id})"),
+        None => String::from_str(alloc, brief),
+    }
 }
 
 /// A result does not fit the rule of its command's method; the misfit is that of the result.

@@ -230,12 +230,19 @@ fn misfit_cause(alloc: Global, misfit: &Misfit) -> Result<Vec<u8>, AllocError>
         .saturating_add(short_of(misfit).len())
         .saturating_add(misfit.has.len());
     let mut text = Vec::with_capacity(alloc, room.saturating_add(AROUND_WORDS))?;
-    put_beyond(&mut text, misfit.is_beyond)?;
-    put_escaped(alloc, &mut text, misfit.pattern.as_str())?;
-    put(&mut text, b": ")?;
-    put_claim_cause(&mut text, misfit)?;
-    put_rule(&mut text, misfit.rule)?;
+    put_cause(alloc, &mut text, misfit)?;
     Ok(text)
+}
+
+// Puts the same behind.
+fn put_cause(alloc: Global, text: &mut Vec<u8>, misfit: &Misfit) -> Result<(), AllocError>
+    ensures { OnOk result (text.new.items ≡ text.old.items ++ misfit_cause (misfit_of misfit.now)) }
+{
+    put_beyond(text, misfit.is_beyond)?;
+    put_escaped(alloc, text, misfit.pattern.as_str())?;
+    put(text, b": ")?;
+    put_claim_cause(text, misfit)?;
+    put_rule(text, misfit.rule)
 }
 
 // Puts what is wrong at a place behind, as it is counted.
