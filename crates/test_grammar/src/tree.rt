@@ -364,22 +364,30 @@ fn parsed(alloc: Global, text: &str) -> Result<String, Fail> {
 fn placed(alloc: Global, asked: &str) -> Result<String, Fail> {
     let mut members = OutlineMembers::new(alloc);
     for member in asked.split(' ') {
-        let (name, number) = member.split_once('=').ok_or("no member")?;
-        let number = JsInt::new(number.parse()?).ok_or("out of range")?;
-        put_outline(&mut members, name, Outline::Int(number))?;
+        put_number(&mut members, member)?;
     }
     if members.len() != members.as_slice().len() {
         return Err(Fail::from("another count"));
     }
+    numbers_in(alloc, members.as_slice())
+}
+
+fn put_number<'a>(members: &mut OutlineMembers<'a>, member: &'a str) -> Result<(), Fail> {
+    let (name, number) = member.split_once('=').ok_or("no member")?;
+    let number = JsInt::new(number.parse()?).ok_or("out of range")?;
+    Ok(put_outline(members, name, Outline::Int(number))?)
+}
+
+fn numbers_in(alloc: Global, members: &[(&str, Outline<'_>)]) -> Result<String, Fail> {
     let mut told = String::new(alloc);
-    for (name, outline) in members.as_slice() {
+    for (name, outline) in members {
         let Outline::Int(number) = outline else {
             return Err(Fail::from("another outline"));
         };
         if !told.is_empty() {
             told.push_str(" ")?;
         }
-        told.push_str(&format!(in alloc; "{}={}", name, number.value)?)?;
+        write!(told, "{name}={}", number.value)?;
     }
     Ok(told)
 }

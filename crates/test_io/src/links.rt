@@ -215,12 +215,16 @@ impl Asked for Codes {
     fn found(alloc: Global, code: &str, _: &str) -> Result<String, Fail> {
         let [high, low] = code.parse::<u16>()?.to_be_bytes();
         let text = format!(in alloc; "88 82 00 00 00 00 {high:02x} {low:02x} / take")?;
-        let played = played(alloc, "server", text.as_str())?;
-        let (_, written) = played.as_str().split_once('/').ok_or("no bytes")?;
-        match bytes_of(alloc, written)?.as_slice() {
-            [0x88, _, high, low, ..] => Ok(u16::from_be_bytes([*high, *low]).to_string(alloc)?),
-            _ => Err(Fail::from("no close frame with a code")),
-        }
+        close_code(alloc, played(alloc, "server", text.as_str())?.as_str())
+    }
+}
+
+/// The code of the close frame that was written.
+fn close_code(alloc: Global, played: &str) -> Result<String, Fail> {
+    let (_, written) = played.split_once('/').ok_or("no bytes")?;
+    match bytes_of(alloc, written)?.as_slice() {
+        [0x88, _, high, low, ..] => Ok(u16::from_be_bytes([*high, *low]).to_string(alloc)?),
+        _ => Err(Fail::from("no close frame with a code")),
     }
 }
 
@@ -350,18 +354,44 @@ fn answers_within(
 {
     let mut told = String::with_capacity(alloc, 256)?;
     let written = RefCell::new(Vec::with_capacity(alloc, 64)?);
-    let mut link = Link::server(alloc, wire_of("server", &[], &written)?)?;
+    push_answers(alloc, &mut told, &written, blocks, call, room)?;
+    push_bytes(&mut told, written.into_inner().as_slice())?;
+    Ok(told)
+}
+
+/// Adds what a link answers to a call within the room, and then to the same call with all of the memory.
+fn push_answers(
+    alloc: Global,
+    told: &mut String,
+    written: &RefCell<Vec<u8>>,
+    blocks: &mut Vec<Vec<u8>>,
+    call: &str,
+    room: usize,
+) -> Result<(), Fail>
+    requires { room < 8192 }
+{
+    let mut link = Link::server(alloc, wire_of("server", &[], written)?)?;
+    push_answer_within(alloc, told, &mut link, blocks, call, room)?;
+    blocks.clear();
+    push_call(told, &mut link, call)
+}
+
+/// Adds what a link answers to a call when no more memory is left than the room.
+fn push_answer_within(
+    alloc: Global,
+    told: &mut String,
+    link: &mut Link<Wire<'_>, NoMask>,
+    blocks: &mut Vec<Vec<u8>>,
+    call: &str,
+    room: usize,
+) -> Result<(), Fail>
+    requires { room < 8192 }
+{
     let kept = Vec::<u8>::with_capacity(alloc, 8192)?;
     use_up(alloc, blocks)?;
     drop(kept);
-    let held = Vec::<u8>::with_capacity(alloc, 8192 - room)?;
-    push_call(&mut told, &mut link, call)?;
-    drop(held);
-    blocks.clear();
-    push_call(&mut told, &mut link, call)?;
-    drop(link);
-    push_bytes(&mut told, written.into_inner().as_slice())?;
-    Ok(told)
+    let _held = Vec::<u8>::with_capacity(alloc, 8192 - room)?;
+    push_call(told, link, call)
 }
 
 /// Whether all of the memory can be taken. A sanitizer keeps some to itself, as that of `rt try`.

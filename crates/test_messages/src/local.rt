@@ -163,11 +163,17 @@ fn check_plays(rt: &impl Abort, alloc: Global, plays: &str) -> Result<(), Fail> 
 fn check_play(rt: &impl Abort, alloc: Global, play: &str) -> Result<(), Fail> {
     let mut end = LocalEnd::new(alloc);
     for row in play.lines() {
-        let (asked, wanted) = row.split_once(" ->").ok_or("no outcome")?;
-        let found = found(alloc, &mut end, asked)?;
-        let is_wanted = found.as_str() == wanted.trim();
-        assert!(rt; is_wanted, "{found} comes of {row}");
+        check_row(rt, alloc, &mut end, row)?;
     }
+    Ok(())
+}
+
+/// That this row comes of a local end as it says.
+fn check_row(rt: &impl Abort, alloc: Global, end: &mut LocalEnd, row: &str) -> Result<(), Fail> {
+    let (asked, wanted) = row.split_once(" ->").ok_or("no outcome")?;
+    let found = found(alloc, end, asked)?;
+    let is_wanted = found.as_str() == wanted.trim();
+    assert!(rt; is_wanted, "{found} comes of {row}");
     Ok(())
 }
 

@@ -2,15 +2,15 @@
 ghost use Rattle.std.specs.Prelude.{IfOk};
 ghost use Rattle.bidi_messages.specs.View.{IsWell};
 
-use crate::told::tell;
+use crate::told::{tell, tell_read, use_up};
 use bidi_messages::{
     Command, CommandData, ErrorCode, EventData, EventName, Message, Method, Named, Payload,
     Sendable, SessionCommand, Verdict, data_of, error_text, event_text, judge, judge_value,
     read_message, response_around, response_id, response_text, result_of, text_of,
 };
 use bidi_params::UnsubscribeParameters;
-use bidi_shape::Shape;
-use bidi_tree::{JsUint, Tree, are_whole, parse};
+use bidi_shape::{Shape, ShapeFault};
+use bidi_tree::{JsUint, Members, Tree, are_whole, parse};
 use json::{Scratch, Value};
 use std::alloc::Global;
 use std::test::Fail;
@@ -213,7 +213,14 @@ fn again<M: Sendable>(alloc: Global, value: M) -> Result<String, Fail>
 }
 
 fn unsubscribe(alloc: Global, text: &str) -> Result<String, Fail> {
-    match &data_of(alloc, Method::SessionUnsubscribe, &tree_of(alloc, text)?) {
+    let read = data_of(alloc, Method::SessionUnsubscribe, &tree_of(alloc, text)?);
+    let found = unsubscribe_in(alloc, &read);
+    use_up(read);
+    found
+}
+
+fn unsubscribe_in(alloc: Global, read: &Result<CommandData, ShapeFault>) -> Result<String, Fail> {
+    match read {
         Ok(CommandData::Session(SessionCommand::Unsubscribe(UnsubscribeParameters::ById(by_id)))) =>
             { with_further(alloc, "by id", &by_id.ext) }
         Ok(
@@ -278,10 +285,10 @@ fn each_method_has_its_result(rt: HostRuntime) -> Result<(), Fail> {
 fn result(alloc: Global, text: &str) -> Result<String, Fail> {
     let (method, members) = text.split_once(' ').ok_or("no result")?;
     let method = Method::named(method).ok_or("no method")?;
-    match result_of(alloc, method, &members_of(alloc, members)?) {
-        Ok(answer) => tell(alloc, answer),
-        Err(fault) => Ok(format!(in alloc; "{fault:?}")?),
-    }
+    tell_read(
+        alloc,
+        result_of(alloc, method, &members_of(alloc, members)?),
+    )
 }
 
 // ---- messages
@@ -378,7 +385,14 @@ fn event(alloc: Global, text: &str) -> Result<String, Fail> {
 }
 
 fn further(alloc: Global, text: &str) -> Result<String, Fail> {
-    match event_in(alloc, text)? {
+    let data = event_in(alloc, text)?;
+    let further = further_in(alloc, &data);
+    use_up(data);
+    further
+}
+
+fn further_in(alloc: Global, data: &EventData) -> Result<String, Fail> {
+    match data {
         EventData::RealmDestroyed(params) => {
             written(alloc, Tree::Map(params.ext.copy_members()?))
         }
@@ -468,12 +482,15 @@ fn sent_texts_and_names(rt: HostRuntime) -> Result<(), Fail> {
 fn response(alloc: Global, text: &str) -> Result<String, Fail> {
     let (method, members) = text.split_once(' ').ok_or("no result")?;
     let method = Method::named(method).ok_or("no method")?;
+    response_with(alloc, method, &members_of(alloc, members)?)
+}
+
+fn response_with(alloc: Global, method: Method, members: &Members) -> Result<String, Fail> {
     let id = JsUint::new(1).ok_or("no number")?;
-    let members = members_of(alloc, members)?;
-    if !are_whole(&members, 60) {
+    if !are_whole(members, 60) {
         return owned(alloc, "too deep");
     }
-    let answer = result_of(alloc, method, &members)?;
+    let answer = result_of(alloc, method, members)?;
     Ok(response_text(alloc, id, answer)?)
 }
 
@@ -493,7 +510,9 @@ fn error(alloc: Global, text: &str) -> Result<String, Fail> {
 
 fn event_again(alloc: Global, text: &str) -> Result<String, Fail> {
     let data = event_in(alloc, text)?;
-    event_text(alloc, &data).map_err(Fail::from)
+    let again = event_text(alloc, &data);
+    use_up(data);
+    Ok(again?)
 }
 
 fn name_of<N: Named>(alloc: Global, text: &str) -> Result<String, Fail> {

@@ -2,6 +2,7 @@
 use bidi_messages::{EventData, Named, Payload, ResultData};
 use bidi_tree::Tree;
 use std::alloc::{AllocError, Global};
+use std::fmt::Debug;
 use std::test::Fail;
 use testing::texts::written;
 
@@ -37,3 +38,17 @@ pub(crate) fn tell<T: Told>(alloc: Global, told: T) -> Result<String, Fail> {
     let text = written(alloc, told.tree(alloc)?)?;
     Ok(format!(in alloc; "{name} {text}", name = told.name())?)
 }
+
+/// The same of what was read, or the fault.
+pub(crate) fn tell_read<T: Told, E: Debug + Drop>(
+    alloc: Global,
+    read: Result<T, E>,
+) -> Result<String, Fail> {
+    match read {
+        Ok(told) => tell(alloc, told),
+        Err(fault) => Ok(format!(in alloc; "{fault:?}")?),
+    }
+}
+
+/// Drops what was read, where its variants are not visible.
+pub(crate) fn use_up<T: Drop>(_read: T) {}

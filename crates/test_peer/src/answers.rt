@@ -13,10 +13,8 @@ struct Answers;
 
 impl Asked for Answers {
     fn found(alloc: Global, word: &str, lines: &str) -> Result<String, Fail> {
-        let long = "x".repeat(alloc, number_of(word, "long")?.unwrap_or(0))?;
-        let lines = lines.replace(alloc, "LONG", long.as_str())?;
-        let head = head_of(alloc, lines.as_str())?;
-        let written = answered(alloc, word, head)?;
+        let long = spelled(alloc, lines, "LONG", "x", number_of(word, "long")?)?;
+        let written = answered(alloc, word, long.as_str())?;
         told(alloc, str::from_utf8(&written)?)
     }
 }
@@ -26,9 +24,8 @@ struct Lines;
 
 impl Asked for Lines {
     fn found(alloc: Global, word: &str, lines: &str) -> Result<String, Fail> {
-        let fields = ";A: b".repeat(alloc, number_of(word, "fields")?.unwrap_or(0))?;
-        let lines = lines.replace(alloc, ";FIELDS", fields.as_str())?;
-        let written = answered(alloc, word, head_of(alloc, lines.as_str())?)?;
+        let long = spelled(alloc, lines, ";FIELDS", ";A: b", number_of(word, "fields")?)?;
+        let written = answered(alloc, word, long.as_str())?;
         let (_, body) = str::from_utf8(&written)?
             .split_once("\r\n\r\n")
             .ok_or("no head")?;
@@ -124,6 +121,18 @@ fn an_upgrade_that_is_refused_is_told_why(rt: HostRuntime) -> Result<(), Fail> {
     check_rows::<Answers>(rt.alloc(), UPGRADES)
 }
 
+/// The lines, where a word stands for so many of a part.
+fn spelled(
+    alloc: Global,
+    lines: &str,
+    word: &str,
+    part: &str,
+    count: Option<usize>,
+) -> Result<String, Fail> {
+    let parts = part.repeat(alloc, count.unwrap_or(0))?;
+    Ok(lines.replace(alloc, word, parts.as_str())?)
+}
+
 /// The head of these lines.
 fn head_of(alloc: Global, lines: &str) -> Result<String, Fail> {
     let lines = lines.replace(alloc, "UPGRADE", UPGRADE)?;
@@ -132,35 +141,51 @@ fn head_of(alloc: Global, lines: &str) -> Result<String, Fail> {
     Ok(format!(in alloc; "{lines}\r\n\r\n")?)
 }
 
-/// What is written to a client that asks by this head.
-fn answered(alloc: Global, word: &str, head: String) -> Result<Vec<u8>, Fail> {
-    let mut pieces = Vec::new(alloc);
-    pieces.push(head.into_bytes())?;
-    let script = Script::new(alloc, word, pieces)?;
+/// What is written to a client that asks by these lines.
+fn answered(alloc: Global, word: &str, lines: &str) -> Result<Vec<u8>, Fail> {
+    let script = script_of(alloc, word, lines)?;
     let written = RefCell::new(Vec::new(alloc));
-    let wire = Wire::new(alloc, word, &script, &written)?;
-    let is_over = answer(Peer::new(alloc, wire), word)?;
-    if is_over {
-        Ok(written.into_inner())
-    } else {
-        Err(Fail::from("it is not over"))
-    }
+    answer(alloc, word, &script, &written)?;
+    Ok(written.into_inner())
 }
 
-/// Takes until the connection is over, and refuses it where it asks. Tells whether it is over.
-fn answer(mut peer: Peer<Wire<'_>>, word: &str) -> Result<bool, Fail> {
+/// The script of a client that asks by these lines.
+fn script_of(alloc: Global, word: &str, lines: &str) -> Result<Script, Fail> {
+    let mut pieces = Vec::new(alloc);
+    pieces.push(head_of(alloc, lines)?.into_bytes())?;
+    Script::new(alloc, word, pieces)
+}
+
+/// Answers the client of a script, until the connection is over.
+fn answer(
+    alloc: Global,
+    word: &str,
+    script: &Script,
+    written: &RefCell<Vec<u8>>,
+) -> Result<(), Fail> {
+    let wire = Wire::new(alloc, word, script, written)?;
+    let mut peer = Peer::new(alloc, wire);
     let refusal = if word == "full" {
         RequestRefusal::Full
     } else {
         RequestRefusal::NotFound
     };
+    answer_peer(&mut peer, refusal)
+}
+
+/// Takes until the connection is over, and refuses it where it asks.
+fn answer_peer(peer: &mut Peer<Wire<'_>>, refusal: RequestRefusal) -> Result<(), Fail> {
     for _ in 0..10_000u32 {
         if is_told(peer.take()?) {
             peer.refuse(refusal)?;
             break;
         }
     }
-    Ok(peer.is_over())
+    if peer.is_over() {
+        Ok(())
+    } else {
+        Err(Fail::from("it is not over"))
+    }
 }
 
 /// Whether something came.
@@ -172,8 +197,22 @@ fn is_told(came: Came) -> bool {
 fn told(alloc: Global, answer: &str) -> Result<String, Fail> {
     let (head, body) = answer.split_once("\r\n\r\n").ok_or("no head")?;
     let (status, fields) = head.split_once("\r\n").ok_or("no fields")?;
+    has_length(alloc, fields, body)?;
+    has_fields(status, fields)?;
+    let status = status.strip_prefix("HTTP/1.1 ").ok_or("no HTTP")?;
+    let line = body.strip_suffix("\n").ok_or("no line")?;
+    let (words, _) = line.split_once(':').unwrap_or((line, ""));
+    Ok(format!(in alloc; "{status}, {words}")?)
+}
+
+/// That one of the fields says how long the body is.
+fn has_length(alloc: Global, fields: &str, body: &str) -> Result<(), Fail> {
     let length = format!(in alloc; "Content-Length: {}", body.len())?;
-    has_field(fields, length.as_str())?;
+    has_field(fields, length.as_str())
+}
+
+/// That an answer of this status has the other fields that it has to have.
+fn has_fields(status: &str, fields: &str) -> Result<(), Fail> {
     has_field(fields, "Connection: close")?;
     if status.contains("200") {
         has_field(fields, "Content-Type: application/json; charset=utf-8")?;
@@ -185,10 +224,7 @@ fn told(alloc: Global, answer: &str) -> Result<String, Fail> {
         has_field(fields, "Upgrade: websocket")?;
         has_field(fields, "Sec-WebSocket-Version: 13")?;
     }
-    let status = status.strip_prefix("HTTP/1.1 ").ok_or("no HTTP")?;
-    let line = body.strip_suffix("\n").ok_or("no line")?;
-    let (words, _) = line.split_once(':').unwrap_or((line, ""));
-    Ok(format!(in alloc; "{status}, {words}")?)
+    Ok(())
 }
 
 fn has_field(fields: &str, field: &str) -> Result<(), Fail> {

@@ -32,20 +32,26 @@ impl Asked for Calls {
 fn told_by(alloc: Global, mut peer: Peer<Wire<'_>>) -> Result<String, Fail> {
     let mut told = String::new(alloc);
     for _ in 0..2_000u32 {
-        match peer.take()? {
-            Came::Calls(call) => {
-                push_call(&mut told, &call)?;
-                peer.reply(ReplyStatus::Done, "[]")?;
-            }
-            Came::Ended => told.push_str("ends, ")?,
-            Came::Asks(_) => told.push_str("asks, ")?,
-            _ => {}
-        }
+        push_next(&mut told, &mut peer)?;
     }
     if !peer.is_over() {
         told.push_str("waits, ")?;
     }
     Ok(told)
+}
+
+/// What comes next, which is replied to where it is a call.
+fn push_next(told: &mut String, peer: &mut Peer<Wire<'_>>) -> Result<(), Fail> {
+    match peer.take()? {
+        Came::Calls(call) => {
+            push_call(told, &call)?;
+            peer.reply(ReplyStatus::Done, "[]")?;
+        }
+        Came::Ended => told.push_str("ends, ")?,
+        Came::Asks(_) => told.push_str("asks, ")?,
+        _ => {}
+    }
+    Ok(())
 }
 
 /// A call, with its body.
@@ -122,14 +128,14 @@ fn reply_of(alloc: Global, status: ReplyStatus) -> Result<String, Fail> {
     let script = Script::new(alloc, "whole", pieces)?;
     let written = RefCell::new(Vec::new(alloc));
     let wire = Wire::new(alloc, "whole", &script, &written)?;
-    reply_to(Peer::new(alloc, wire), status)?;
+    reply_to(&mut Peer::new(alloc, wire), status)?;
     let written = written.into_inner();
     let text = str::from_utf8(&written)?;
     Ok(text.replace(alloc, "\r\n", ";")?)
 }
 
 /// Replies to the call of a connection.
-fn reply_to(mut peer: Peer<Wire<'_>>, status: ReplyStatus) -> Result<(), Fail> {
+fn reply_to(peer: &mut Peer<Wire<'_>>, status: ReplyStatus) -> Result<(), Fail> {
     peer.reply(status, "[1]")?;
     peer.take()?;
     peer.reply(status, "[2]")?;

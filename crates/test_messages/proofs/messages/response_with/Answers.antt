@@ -1,6 +1,6 @@
 use Rattle.std.proofs.Common.{◌≡◌, ◌≤◌, sym, subst, arith, rules}
 use Rattle.bidi_tree.specs.Node.{levels}
-use Rattle.test_messages.proofs.messages.response.Goals as goal
+use Rattle.test_messages.proofs.messages.response_with.Goals as goal
 
 pub response_text-requires-clause-small : goal.response_text-requires-clause-small
 response_text-requires-clause-small c =
