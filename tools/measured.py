@@ -36,10 +36,9 @@ def commit():
 
 
 def block(printed, place):
-    """What stands in a block: where it was measured, then the table as it is, or all that was printed."""
+    """What stands in a block: where it was measured, and all that was printed."""
     lines = [line.rstrip() for line in printed.strip().splitlines()]
-    table = [line for line in lines if line.startswith("|")]
-    return "\n".join([f"Commit `{place}`, {machine()}:", "", *(table or ["```text", *lines, "```"])]) + "\n"
+    return "\n".join([f"Commit `{place}`, {machine()}:", "", "```text", *lines, "```"]) + "\n"
 
 
 def measured(command):

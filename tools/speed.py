@@ -89,8 +89,8 @@ def fault(given):
     return found
 
 
-def row(*cells):
-    print("|", " | ".join(cells), "|", flush=True)
+def row(name, *cells):
+    print(f"{name:<31}" + "".join(f"{it:>15}" for it in cells), flush=True)
 
 
 def measure(given, chosen):
@@ -99,7 +99,6 @@ def measure(given, chosen):
     ends = [" before", " after"] if two else [""]
     heads = ["workload", "count", *(f"seconds{it}" for it in ends), *(f"MB{it}" for it in ends), *["ratio", "written"] * two]
     row(*heads)
-    row(*["---"] * len(heads))
     for name, count, *size in chosen(WORKLOADS):
         make(given, name, count, *size)
         (seconds, memory), wrong = best(given), fault(given)
@@ -112,7 +111,7 @@ def measure(given, chosen):
 
 def growth(given, chosen):
     """Prints the microseconds of a line: the difference between a count and its tenth part, in which no start is."""
-    print("| a line of | what grows |" + " size: microseconds |" * 4 + "\n|" + "---|" * 6)
+    row("microseconds of a line of", "beside")
     for what, sizes, workloads in GROWTH:
         for name, most in chosen(workloads):
             columns = []
@@ -146,7 +145,6 @@ def instructions(given, chosen):
     """Prints the instructions of a line: the difference between inputs of 50 and of 550 of what is repeated."""
     strip(given)
     row("a line of", "what grows", "few", "many", "many / few")
-    row(*["---"] * 5)
     for what, sizes, workloads in GROWTH[:-1]:
         for name, _ in chosen(workloads):
             found = []
@@ -166,7 +164,6 @@ def lines(given, chosen):
     strip(given)
     two = len(given.programs) > 1
     row("a line of", *(["before", "after", "share"] if two else ["instructions"]))
-    row(*["---"] * (4 if two else 2))
     for name, most, *size in chosen(WORKLOADS):
         few, ends = max(int(most) // 500, 1), []
         for count in (few, 2 * few):
@@ -182,8 +179,7 @@ def rows(given, chosen):
     answers = [f'answer {{"method":"network.m{it}","result":{{}}}}\n' for it in range(1024)]
     places = [("a play", [], []), ("a scripted play", ["--scripted"], []), ("a scripted play with 1,024 rows", ["--scripted"], answers)]
     plain = {}
-    row("a status in", "instructions", "of those in a play")
-    row(*["---"] * 3)
+    row("a status in", "instructions", "share")
     for title, options, first in places:
         for place, program in enumerate(given.programs):
             ends = []
