@@ -166,6 +166,8 @@ def lines(given, chosen):
     row("a line of", *(["before", "after", "share"] if two else ["instructions"]))
     for name, most, *size in chosen(WORKLOADS):
         few, ends = max(int(most) // 500, 1), []
+        while make(given, name, few, *size) == make(given, name, 2 * few, *size):
+            few *= 2
         for count in (few, 2 * few):
             ends.append((make(given, name, count, *size), [count_instructions(it, given.input.name) for it in given.commands]))
         (short, small), (long, large) = ends
