@@ -58,7 +58,7 @@ def make(given, name, *numbers):
 def run(command, path):
     """The seconds and the megabytes of a command over that file."""
     # A process begins with the memory of who starts it. So a small shell does, and leaves it to this process by its own end.
-    subprocess.run(["/bin/sh", "-c", '"$@" < "$0" > /dev/null &', path, *command], check=True)
+    subprocess.run(["/bin/sh", "-c", '"$@" < "$0" > /dev/null 2>&1 &', path, *command], check=True)
     _, status, usage = os.wait4(-1, 0)
     if os.waitstatus_to_exitcode(status) != given.status:
         raise SystemExit(f"{shlex.join(command)}: status {os.waitstatus_to_exitcode(status)}")
@@ -74,7 +74,8 @@ def best(given):
 def fault(given):
     """What is wrong with what the commands write, if anything is."""
     found, line, rest, parts = None, 1, b"", [b" "]
-    ends = [subprocess.Popen(it, stdin=open(given.input.name, "rb"), stdout=subprocess.PIPE) for it in given.commands]
+    pipes = {"stdout": subprocess.PIPE, "stderr": subprocess.DEVNULL}
+    ends = [subprocess.Popen(it, stdin=open(given.input.name, "rb"), **pipes) for it in given.commands]
     while found is None and any(parts):
         parts = [end.stdout.read(1 << 20) for end in ends]
         text, rest = rest + parts[0], parts[0][-20:]
