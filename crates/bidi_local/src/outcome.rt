@@ -32,7 +32,8 @@ impl Taken {
             → IsOutcomeOf waiting (meaning_of self.received) result }
     {
         let outcome = self.in_short();
-        use_up(self);
+        // By a call, in which its variants are not visible.
+        drop(self);
         outcome
     }
 
@@ -50,9 +51,6 @@ impl Taken {
         }
     }
 }
-
-// Drops a message where its variants are not visible.
-fn use_up<M: Drop>(_message: M) {}
 
 // The outcome of a bad result for a command of this method.
 fn bad_result(id: JsUint, method: Option<Method>) -> Outcome

@@ -137,12 +137,10 @@ fn params_text(alloc: Global, event: EventData) -> Result<String, AllocError>
     ensures { IfOk result (λ text. string_bytes text ≡ compact_text (event_params event)) }
 {
     let tree = event.tree_of(alloc);
-    use_up(event);
+    // By a call, in which its variants are not visible.
+    drop(event);
     compact(alloc, tree?)
 }
-
-// Drops an event where its variants are not visible.
-fn use_up<E: Drop>(_event: E) {}
 
 // The line of an event.
 fn told_event(alloc: Global, link: JsUint, name: &str, text: &str) -> Result<String, AllocError>

@@ -309,7 +309,8 @@ fn event_line(alloc: Global, event: Event) -> Result<String, AllocError>
 {
     let event_name = event.data.event();
     let text = text_of_event(alloc, &event);
-    use_up(event);
+    // By a call, in which its variants are not visible.
+    drop(event);
     let text = text?;
     let mut line = String::with_capacity(alloc, text.len().saturating_add(LONGEST_HEAD))?;
     line.push_str("event ")?;
@@ -332,9 +333,6 @@ fn text_of_event(alloc: Global, event: &Event) -> Result<String, AllocError>
     }
     text_of(alloc, event)
 }
-
-// Drops a message where its variants are not visible.
-fn use_up<M: Drop>(_message: M) {}
 
 // ---- messages of both ends
 

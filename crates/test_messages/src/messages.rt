@@ -2,7 +2,7 @@
 ghost use Rattle.std.specs.Prelude.{IfOk};
 ghost use Rattle.bidi_messages.specs.View.{IsWell};
 
-use crate::told::{tell, tell_read, use_up};
+use crate::told::{tell, tell_read};
 use bidi_messages::{
     Command, CommandData, ErrorCode, EventData, EventName, Message, Method, Named, Payload,
     Sendable, SessionCommand, Verdict, data_of, error_text, event_text, judge, judge_value,
@@ -215,7 +215,7 @@ fn again<M: Sendable>(alloc: Global, value: M) -> Result<String, Fail>
 fn unsubscribe(alloc: Global, text: &str) -> Result<String, Fail> {
     let read = data_of(alloc, Method::SessionUnsubscribe, &tree_of(alloc, text)?);
     let found = unsubscribe_in(alloc, &read);
-    use_up(read);
+    drop(read);
     found
 }
 
@@ -387,7 +387,7 @@ fn event(alloc: Global, text: &str) -> Result<String, Fail> {
 fn further(alloc: Global, text: &str) -> Result<String, Fail> {
     let data = event_in(alloc, text)?;
     let further = further_in(alloc, &data);
-    use_up(data);
+    drop(data);
     further
 }
 
@@ -511,7 +511,7 @@ fn error(alloc: Global, text: &str) -> Result<String, Fail> {
 fn event_again(alloc: Global, text: &str) -> Result<String, Fail> {
     let data = event_in(alloc, text)?;
     let again = event_text(alloc, &data);
-    use_up(data);
+    drop(data);
     Ok(again?)
 }
 

@@ -49,6 +49,3 @@ pub(crate) fn tell_read<T: Told, E: Debug + Drop>(
         Err(fault) => Ok(format!(in alloc; "{fault:?}")?),
     }
 }
-
-/// Drops what was read, where its variants are not visible.
-pub(crate) fn use_up<T: Drop>(_read: T) {}
