@@ -11,7 +11,7 @@ use crate::measuring::size_of;
 use crate::refusal::Refusal;
 use crate::size::Size;
 use bidi_shape::Shape;
-use bidi_tree::write_outline;
+use bidi_tree::{append_outline, write_outline};
 use bidi_values::RemoteValue;
 use std::alloc::{AllocError, Global};
 use std::rc::Rc;
@@ -40,9 +40,14 @@ fn measured_and_written(alloc: Global, value: &RemoteValue) -> Result<(Size, Str
     ensures sound { IfOk result (λ _. IsSound (remote_tree value.now)) }
 {
     let outline = value.outline(alloc)?;
-    let text = write_outline(alloc, &outline)?;
-    Ok((size_of(&outline), text))
+    let size = size_of(&outline);
+    let room = size.bytes.saturating_add(ROOM_BEHIND) as usize;
+    let text = append_outline(String::with_capacity(alloc, room)?, &outline)?;
+    Ok((size, text))
 }
+
+/// The room that the writer wants behind a text, so that its block does not grow for the last bytes.
+const ROOM_BEHIND: u64 = 32;
 
 /// The compact text of a value's tree.
 ///

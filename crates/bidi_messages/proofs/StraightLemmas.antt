@@ -1,9 +1,9 @@
 -- Params of events and results of commands that are written straight: their texts, and that their trees are sound.
-use Rattle.std.specs.Prelude.{decimal, IfOk, OnOk, IsTrue, Bool, true, false, not, ◌&&◌, leb}
+use Rattle.std.specs.Prelude.{decimal, IfOk, OnOk, IsTrue, Bool, true, not, ◌&&◌, leb}
 use Rattle.std.proofs.Common.{◌≡◌, ◌∙◌, ◌++◌, ◌⊎◌, inl, inr, ◌+◌, ◌<◌, ◌≤◌, ℕ, List, [], ◌∷◌, Option, Some, None, Result, Ok, Err, String, Global, codes, length, get_or, take, option_map}
 use Rattle.std.proofs.Common.{refl, sym, ap, ap₂, arith, append_assoc, string_bytes}
 use Rattle.std.proofs.Math.Dec.{eqb}
-use Rattle.std.proofs.lemmas.Bool.{eq-eqb, eqb-true, le-ltb, leb-true, ne_eqb}
+use Rattle.std.proofs.lemmas.Bool.{and_parts, eqb-false, eqb-true, le-ltb, leb-true, ne_eqb, not-true}
 use Rattle.std.proofs.lemmas.Grind.{flat_map-append}
 use Rattle.std.proofs.lemmas.List.{take_more}
 use Rattle.json.specs.Print.{escape, escape_byte}
@@ -60,22 +60,15 @@ plain-more s bytes i same was below high quote slash =
     let more : take (i + 1) s ≡ take i s ++ b ∷ [] = sym (ap (take (i + 1)) same) ∙ (take_more bytes i 0 below ∙ ap (λ xs. take i xs ++ b ∷ []) same) in
     ap escape more ∙ (flat_map-append escape_byte (take i s) (b ∷ []) ∙ (ap₂ (λ x y. x ++ (y ++ [])) was (plain-byte b high quote slash) ∙ sym more))
 
-both-true : (a b : Bool) → a && b ≡ true → (a ≡ true) × (b ≡ true)
-both-true true b is = (refl, is)
-both-true false b is = absurd (cc)
-
-other : (a b : ℕ) → not (eqb a b) ≡ true → a ≡ b → ⊥
-other a b is same = absurd (let equal = eq-eqb a b same in cc)
-
 -- the same of a byte of which all is known at once
 pub plain-still : (plain : Bool) (s bytes : List ℕ) (i : ℕ) → bytes ≡ s → (plain ≡ true → escape (take i s) ≡ take i s) → i < length bytes
     → plain && ((leb 32 (get_or bytes i 0) && not (eqb (get_or bytes i 0) 34)) && not (eqb (get_or bytes i 0) 92)) ≡ true → escape (take (i + 1) s) ≡ take (i + 1) s
 plain-still plain s bytes i same was below all =
     let b = get_or bytes i 0 in
-    let (before, own) = both-true plain _ all in
-    let (two, slash) = both-true _ (not (eqb b 92)) own in
-    let (high, quote) = both-true (leb 32 b) (not (eqb b 34)) two in
-    plain-more s bytes i same (was before) below (leb-true 32 b high) (other b 34 quote) (other b 92 slash)
+    let (before, own) = and_parts plain _ all in
+    let (two, slash) = and_parts _ (not (eqb b 92)) own in
+    let (high, quote) = and_parts (leb 32 b) (not (eqb b 34)) two in
+    plain-more s bytes i same (was before) below (leb-true 32 b high) (eqb-false b 34 (not-true _ quote)) (eqb-false b 92 (not-true _ slash))
 
 -- a string of such bytes, whose closing quotation mark stands in front of the rest
 pub closed : (front v rest : List ℕ) → escape v ≡ v → front ++ (v ++ 34 ∷ rest) ≡ front ++ ((escape v ++ 34 ∷ []) ++ rest)

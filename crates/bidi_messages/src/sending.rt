@@ -45,12 +45,10 @@ pub fn response_text(
     ensures reads_back { IfOk result (λ s. IsMessageText ⟦<Message as Shape>⟧.shape (string_bytes s)) }
 {
     let text = write_response(alloc, id, &result_data);
-    use_up(result_data);
+    // By a call, in which its variants are not visible.
+    drop(result_data);
     text
 }
-
-// Drops a value where its variants are not visible.
-fn use_up<D: Drop>(_value: D) {}
 
 /// The room for the other members of a response.
 const RESPONSE_ROOM: usize = 64;

@@ -63,7 +63,7 @@ fn members_parsed<'a>(
     }
 }
 
-// Each is compared with those that stand last.
+// Each is put into its place, which is looked for from the end.
 #[cycle(outline_parsed)]
 fn few_parsed<'a>(
     alloc: Global,
