@@ -1,5 +1,5 @@
 -- What the table of rows tells is what the past tells.
-use Rattle.std.proofs.Common.{◌≡◌, ◌∙◌, ◌≤◌, ℕ, Bool, true, false, List, [], ◌∷◌, ◌++◌, map, take, drop, length, cond, refl, sym, ap, ap₂, arith}
+use Rattle.std.proofs.Common.{◌≡◌, ◌∙◌, ◌≤◌, ◌+◌, ℕ, Bool, true, false, List, [], ◌∷◌, ◌++◌, map, take, drop, length, cond, refl, sym, ap, ap₂, arith}
 use Rattle.std.specs.Prelude.{◌==◌, nat_eq, nat_lt, ◌||◌, if◌then◌else◌, filter, flat_map, find, not, Option, Some, None, is_none, unwrap_or, option_map}
 use Rattle.std.specs.Option.{option_eq}
 use Rattle.std.specs.List.{list_any, position, position_or_len}
@@ -45,6 +45,19 @@ position-or p xs = step (nat_lt (position_or_len p xs) (length xs)) refl
 -- a place, by what f gives
 pub position-map : {A B : Type 0} (f : A → B) (p : B → Bool) (xs : List A) → position (λ x. p (f x)) xs ≡ position p (map f xs)
 position-map f p xs = ap₂ (λ n m. cond (nat_lt n m) (Some n) None) (first-map f p xs) (sym (length-map xs f))
+
+-- a place in a list that stands behind so many others
+pub position-behind : {A : Type 0} (p : A → Bool) (xs ys : List A) (k : ℕ) → length xs ≡ k + length ys → position_or_len p xs ≡ k + position_or_len p ys
+    → position p xs ≡ option_map (λ i. k + i) (position p ys)
+position-behind p xs ys k lengths places =
+    ap₂ (λ n m. cond (nat_lt n m) (Some n) None) places lengths ∙ step (position_or_len p ys) (length ys) (nat_lt (position_or_len p ys) (length ys)) refl
+  where
+    same : (n m : ℕ) → nat_lt (k + n) (k + m) ≡ nat_lt n m
+    same n m = grind (arith, nat_tests)
+
+    step : (n m : ℕ) (b : Bool) → nat_lt n m ≡ b → cond (nat_lt (k + n) (k + m)) (Some (k + n)) None ≡ option_map (λ i. k + i) (cond (nat_lt n m) (Some n) None)
+    step n m true is = rw (same n m, is) refl
+    step n m false is = rw (same n m, is) refl
 
 -- a list without a range, by what is seen of it
 pub map-cut : {A B C : Type 0} (f : A → C) (g : B → C) (xs : List A) (ys : List B) (i e : ℕ) → map f xs ≡ map g ys

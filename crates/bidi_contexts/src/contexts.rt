@@ -16,8 +16,9 @@ ghost use Rattle.bidi_contexts.specs.Subtrees.{AreSubtrees};
 use crate::context::Context;
 use crate::info_texts::{tree_text, trees_text};
 use crate::navigation::Navigation;
+use crate::seeking::{numbered, place_of, skip_others};
 use crate::session_history::Move;
-use crate::subtrees::{place_for, place_of, range_of};
+use crate::subtrees::{place_for, range_of};
 use bidi_handles::{Handle, IdKind, id_number};
 use std::alloc::{AllocError, Global};
 
@@ -291,14 +292,8 @@ fn named<'a>(contexts: &'a [Context], id: &str) -> Option<&'a Context>
     ensures found { option_map (λ c. c.now) result ≡ find (λ c. bytes_eq id.now (id_of IdKind.Context c.number)) contexts.now }
     ensures one { (n m : ℕ) → n < 2 ^ 48 → m < 2 ^ 48 → bytes_eq id.now (id_of IdKind.Context n) ≡ true → bytes_eq id.now (id_of IdKind.Context m) ≡ true → n ≡ m }
 {
-    numbered(contexts, id_number(id, IdKind::Context, 0)?)
-}
-
-// The context of this number.
-fn numbered(contexts: &[Context], number: u64) -> Option<&Context>
-    ensures { option_map (λ c. c.now) result ≡ find (λ c. c.number == number) contexts.now }
-{
-    contexts.iter().find(|context| context.number == number)
+    let number = id_number(id, IdKind::Context, 0)?;
+    numbered(skip_others(contexts, number), number)
 }
 
 // The context whose realm has this id.

@@ -20,6 +20,7 @@ mod info_trees;
 mod limits;
 mod navigation;
 mod occurrence;
+mod seeking;
 mod session_history;
 mod subtrees;
 mod telling;

@@ -7,6 +7,7 @@ ghost use Rattle.std.specs.List.{position, position_or_len};
 ghost use Rattle.bidi_contexts.specs.Subtrees.{end_in};
 
 use crate::context::Context;
+use crate::seeking::place_of;
 
 /// Where the subtree of the context of this number begins, and where it ends.
 pub(crate) fn range_of(contexts: &[Context], number: u64) -> Option<(usize, usize)>
@@ -58,11 +59,4 @@ fn first_at(level: u64, contexts: &[Context]) -> Option<usize>
     contexts
         .iter()
         .position(|context| context.details.level <= level)
-}
-
-/// The place of the context of this number.
-pub(crate) fn place_of(contexts: &[Context], number: u64) -> Option<usize>
-    ensures { result ≡ position (λ c. c.number == number) contexts.now }
-{
-    contexts.iter().position(|context| context.number == number)
 }
