@@ -1,4 +1,5 @@
-"""Tests of the fixture itself: of what it does for a test that forgets to close, that fails, or whose host ends."""
+"""Tests of the fixture itself: of what it does for a test that forgets to close, that fails, or whose host ends or is silent."""
+import asyncio
 import json
 import os
 import re
@@ -6,10 +7,15 @@ import shutil
 import subprocess
 import sys
 import time
+from concurrent.futures import ThreadPoolExecutor
 from pathlib import Path
 
+import conftest
 import pytest
-from conftest import Host, HostFault
+from conftest import AsyncHost, Host, HostFault
+
+STATUS = '{"id":1,"method":"session.status","params":{}}'
+LONG = "x" * 200_000  # more than a pipe keeps
 
 FORGETFUL = '''
 import asyncio
@@ -70,6 +76,31 @@ async def test_has_a_new_host(host):
     await ask(host)
 '''
 
+SILENT = '''
+import asyncio
+import signal
+import conftest
+import pytest
+
+@pytest.fixture(autouse=True)
+def silent(host, monkeypatch):
+    monkeypatch.setattr(conftest, "LIMIT", 1)
+    host.child.send_signal(signal.SIGSTOP)
+
+def test_writes(host):
+    host.page("x" * 200_000)
+
+async def test_writes_in_a_coroutine(host):
+    host.page("x" * 200_000)
+
+async def test_writes_and_awaits(async_host):
+    await async_host.page("x" * 200_000)
+
+async def test_awaits_a_task_that_writes(async_host):
+    task = asyncio.ensure_future(async_host.page("x" * 200_000))
+    await asyncio.Event().wait()
+'''
+
 
 def run_tests(folder, source, **variables):
     """Runs the tests of a source over the fixture. Returns the counts of its last line, the whole output, and the seconds."""
@@ -104,6 +135,13 @@ def test_a_test_ends_with_its_host(failed):
     assert seconds < 25  # A test that waits for ever would take thirty.
 
 
+def test_a_test_ends_if_its_host_does_not_read(tmp_path):
+    counts, output, seconds = run_tests(tmp_path, SILENT)
+    assert counts == "4 failed", output
+    assert len(re.findall(r"\nE +conftest\.HostFault: `.*` does not answer\. ", output)) == 4
+    assert seconds < 40
+
+
 def test_only_the_record_of_a_test_that_fails_is_kept(failed):
     records, _, output, _ = failed
     names = ["fails", "waits_for_a_host_that_dies", "listens_to_a_host_that_dies", "does_not_see_that_the_host_dies"]
@@ -111,6 +149,19 @@ def test_only_the_record_of_a_test_that_fails_is_kept(failed):
     for file in records.iterdir():
         assert f"record: {file}\n" in output
         assert f"python3 tools/look.py {file} > look.html\n" in output
+
+
+def test_folders_of_processes_that_are_gone_are_removed(tmp_path):
+    gone = subprocess.Popen(["true"])
+    gone.wait()
+    names = [f"host-{gone.pid}-a", f"host-{os.getpid()}-a", "host-a", "test.play"]
+    for name in names:
+        (tmp_path / name).mkdir()
+    (tmp_path / names[0] / "play").write_text("at 1500\n")
+    records = conftest.Records(tmp_path)
+    assert sorted(file.name for file in tmp_path.iterdir()) == sorted([*names[1:], records.written.name])
+    records.end()
+    assert sorted(file.name for file in tmp_path.iterdir()) == sorted(names[1:])
 
 
 def test_a_record_is_a_play(failed):
@@ -155,3 +206,99 @@ def test_further_lines_of_standard_error_are_read(tmp_path, monkeypatch):
     with pytest.raises(HostFault, match="(?s)SIGKILL.*a line before"):
         other.page("at 1500")
     other.end()
+
+
+@pytest.fixture
+def silent(tmp_path, monkeypatch):
+    """A host that reads nothing and answers nothing, and for which a call waits one second."""
+    script = tmp_path / "bidi"
+    script.write_text('#!/bin/sh\necho "WebDriver BiDi listening on ws://127.0.0.1:9" >&2\nexec sleep 60\n')
+    script.chmod(0o755)
+    monkeypatch.setenv("BIDI", str(script))
+    host = Host()
+    monkeypatch.setattr(conftest, "LIMIT", 1)
+    yield host
+    host.fault()
+    host.end()
+
+
+def test_a_host_that_does_not_read_is_at_fault(silent):
+    with pytest.raises(HostFault, match="does not answer"):
+        silent.page(LONG)
+
+
+async def test_other_tasks_run_while_a_host_does_not_read(silent):
+    page = asyncio.ensure_future(AsyncHost(silent).page(LONG))
+    await asyncio.sleep(0.1)
+    assert not page.done()
+    with pytest.raises(HostFault, match="does not answer"):
+        await page
+
+
+def test_a_host_that_does_not_read_can_be_ended(silent):
+    silent.send(LONG)
+    with pytest.raises(HostFault, match="does not answer"):
+        silent.end()
+
+
+def test_a_long_line_is_answered(host):
+    assert host.page(LONG).startswith("no line of a page: ")
+    assert host.page("at 1500") == "ok"
+
+
+async def test_lines_are_answered_in_their_order(async_host):
+    lines = ["at 1500", "unframe none", "fly"]
+    answers = await asyncio.gather(*map(async_host.page, lines))
+    assert [answer.partition(":")[0] for answer in answers] == ["ok", "no effect", "no line of a page"]
+
+
+async def test_a_call_that_is_cancelled_takes_no_answer_of_another(async_host):
+    page = asyncio.ensure_future(async_host.page("at 1500"))
+    await asyncio.sleep(0)
+    page.cancel()
+    assert (await async_host.page("fly")).startswith("no line of a page: ")
+    assert page.cancelled()
+
+
+async def test_a_call_that_is_cancelled_takes_no_held_command(async_host):
+    await async_host.hold("session.status")
+    with pytest.raises(TimeoutError):
+        await asyncio.wait_for(async_host.held(), timeout=0.1)
+    async with async_host.connect() as socket:
+        await socket.send(STATUS)
+        assert await asyncio.wait_for(async_host.held(), timeout=5) == (1, 1, STATUS)
+
+
+async def test_a_reset_forgets_held_commands(async_host):
+    await async_host.hold("session.status", times=1)
+    async with async_host.connect() as socket:
+        await socket.send(STATUS)
+        await socket.send(STATUS)
+        await socket.recv()  # The second command is answered, so the first is held.
+    await async_host.reset()
+    with pytest.raises(TimeoutError):
+        await asyncio.wait_for(async_host.held(), timeout=0.1)
+
+
+async def ask_status(host):
+    async with host.connect() as socket:
+        await socket.send(STATUS)
+        return json.loads(await socket.recv())
+
+
+def test_a_plain_test_takes_a_held_command(host):
+    host.hold("session.status")
+    with ThreadPoolExecutor() as pool:
+        reply = pool.submit(asyncio.run, ask_status(host))
+        number, conn, text = host.held()
+        assert (number, conn, text) == (1, 1, STATUS)
+        assert host.page("release 1") == "ok"
+        assert reply.result(timeout=5)["result"]["ready"] is True
+
+
+def test_that_no_command_is_held_is_no_fault_of_the_host(host, monkeypatch):
+    monkeypatch.setattr(conftest, "LIMIT", 0.1)
+    with pytest.raises(TimeoutError, match="no command was held in 0.1 seconds"):
+        host.held()
+    monkeypatch.undo()
+    assert host.page("at 1500") == "ok"

@@ -78,16 +78,16 @@ async def driving(host, *events):
         yield client
 
 
-async def test_a_session_begins_and_ends(host):
-    async with connected(host) as client:
+async def test_a_session_begins_and_ends(async_host):
+    async with connected(async_host) as client:
         assert await client.ask("session.status") == {"ready": True, "message": "ready"}
         assert (await client.ask("session.new", capabilities={}))["sessionId"] == SESSION
         assert await client.ask("session.end") == {}
         assert await client.closed() == (1000, "")
 
 
-async def test_only_subscribed_events_are_told(host):
-    async with driving(host) as client:
+async def test_only_subscribed_events_are_told(async_host):
+    async with driving(async_host) as client:
         await client.ask("browsingContext.create", type="tab")
         assert await client.heard() == []
         await client.ask("session.subscribe", events=["browsingContext.contextDestroyed"])
@@ -99,16 +99,16 @@ async def test_only_subscribed_events_are_told(host):
         assert await client.heard() == []
 
 
-async def test_frames_come_and_go(host):
-    async with driving(host, "browsingContext.contextCreated", "browsingContext.contextDestroyed") as client:
-        assert host.page(f"frame {TAB} http://a.test/side") == "ok"
+async def test_frames_come_and_go(async_host):
+    async with driving(async_host, "browsingContext.contextCreated", "browsingContext.contextDestroyed") as client:
+        assert await async_host.page(f"frame {TAB} http://a.test/side") == "ok"
         frame = await client.event()
         assert (frame["parent"], frame["url"]) == (TAB, "http://a.test/side")
         tree = await client.ask("browsingContext.getTree", root=TAB)
         assert [child["context"] for child in tree["contexts"][0]["children"]] == [frame["context"]]
-        assert host.page(f"unframe {frame['context']}") == "ok"
+        assert await async_host.page(f"unframe {frame['context']}") == "ok"
         assert (await client.event())["context"] == frame["context"]
-        assert tells(host.page(f"unframe {TAB}"), "no effect")
+        assert tells(await async_host.page(f"unframe {TAB}"), "no effect")
         assert await client.heard() == []
 
 
@@ -117,9 +117,9 @@ async def test_frames_come_and_go(host):
     ("interactive", ["navigationStarted", "domContentLoaded"], ["load"]),
     ("complete", ["navigationStarted", "domContentLoaded", "load"], []),
 ])
-async def test_a_navigation_is_answered_where_it_waits_for(host, wait, before, behind):
+async def test_a_navigation_is_answered_where_it_waits_for(async_host, wait, before, behind):
     events = [f"browsingContext.{name}" for name in before + behind]
-    async with driving(host, *events) as client:
+    async with driving(async_host, *events) as client:
         there = await client.ask("browsingContext.navigate", context=TAB, url="http://a.test", wait=wait)
         assert there["url"] == "http://a.test/"
         assert [event["method"] for event in client.events] == events[:len(before)]
@@ -132,34 +132,34 @@ async def test_a_navigation_is_answered_where_it_waits_for(host, wait, before, b
     ('{"text":"run()","returns":{"type":"array","value":[{"type":"null"}]}}', {"type": "array", "value": [{"type": "null"}]}),
     ('{"text":"run()","argument":0}', {"type": "undefined"}),
 ])
-async def test_a_script_gives_what_its_row_says(host, row, result):
-    async with driving(host) as client:
-        assert host.page(f"value {row}") == "ok"
+async def test_a_script_gives_what_its_row_says(async_host, row, result):
+    async with driving(async_host) as client:
+        assert await async_host.page(f"value {row}") == "ok"
         answer = await client.ask("script.evaluate", expression="run()", target={"context": TAB}, awaitPromise=False)
         assert (answer["type"], answer["result"]) == ("success", result)
 
 
-async def test_a_function_gives_its_argument(host):
-    async with driving(host) as client:
-        host.page('value {"text":"x => x","argument":0}')
+async def test_a_function_gives_its_argument(async_host):
+    async with driving(async_host) as client:
+        await async_host.page('value {"text":"x => x","argument":0}')
         given = {"type": "string", "value": "same"}
         answer = await client.ask("script.callFunction", functionDeclaration="x => x", arguments=[given],
                                   target={"context": TAB}, awaitPromise=False)
         assert answer["result"] == given
 
 
-async def test_a_script_that_throws_is_no_error(host):
-    async with driving(host) as client:
-        host.page('value {"text":"pay()","throws":{"type":"error"}}')
+async def test_a_script_that_throws_is_no_error(async_host):
+    async with driving(async_host) as client:
+        await async_host.page('value {"text":"pay()","throws":{"type":"error"}}')
         answer = await client.ask("script.evaluate", expression="pay()", target={"context": TAB}, awaitPromise=True)
         assert answer["type"] == "exception"
         assert answer["exceptionDetails"]["exception"] == {"type": "error"}
 
 
-async def test_a_log_entry_has_its_level_and_moment(host):
-    async with driving(host, "log.entryAdded") as client:
-        host.page("at 1500")
-        assert host.page(f"log {TAB} warn the page is slow") == "ok"
+async def test_a_log_entry_has_its_level_and_moment(async_host):
+    async with driving(async_host, "log.entryAdded") as client:
+        await async_host.page("at 1500")
+        assert await async_host.page(f"log {TAB} warn the page is slow") == "ok"
         entry = await client.event()
         assert (entry["level"], entry["text"], entry["timestamp"]) == ("warn", "the page is slow", 1500)
         assert entry["source"]["context"] == TAB
@@ -175,36 +175,36 @@ async def test_a_log_entry_has_its_level_and_moment(host):
     ("browser.removeUserContext", {"userContext": "default"}, "invalid argument"),
     ("script.evaluate", {"expression": "1", "target": {"context": TAB}, "awaitPromise": False}, "unsupported operation"),
 ])
-async def test_a_bad_command_is_refused(host, method, params, code):
-    async with driving(host) as client:
+async def test_a_bad_command_is_refused(async_host, method, params, code):
+    async with driving(async_host) as client:
         with pytest.raises(Refused, match=f"^{code}$"):
             await client.ask(method, **params)
 
 
-async def test_a_text_that_is_no_json_is_answered(host):
-    async with connected(host) as client:
+async def test_a_text_that_is_no_json_is_answered(async_host):
+    async with connected(async_host) as client:
         await client.socket.send('{"id":1')
         answer = await client.take()
         assert (answer["type"], answer["id"], answer["error"]) == ("error", None, "invalid argument")
 
 
-async def test_two_sessions_share_a_browser_and_no_subscription(host):
-    async with driving(host, "browsingContext.contextCreated") as one, driving(host, "log.entryAdded") as other:
+async def test_two_sessions_share_a_browser_and_no_subscription(async_host):
+    async with driving(async_host, "browsingContext.contextCreated") as one, driving(async_host, "log.entryAdded") as other:
         tab = (await other.ask("browsingContext.create", type="tab"))["context"]
         assert (await one.event())["context"] == tab
-        host.page(f"log {tab} info to one of two")
+        await async_host.page(f"log {tab} info to one of two")
         assert (await other.event())["text"] == "to one of two"
         assert await one.heard() == []
         await one.ask("session.end")
         assert await one.closed() == (1000, "")
-        host.page(f"log {tab} info still there")
+        await async_host.page(f"log {tab} info still there")
         assert (await other.event())["text"] == "still there"
 
 
-async def test_a_late_subscriber_is_told_what_there_is(host):
-    async with driving(host) as client:
-        host.page(f"frame {TAB} http://a.test/side")
-        host.page(f"log {TAB} info before the subscription")
+async def test_a_late_subscriber_is_told_what_there_is(async_host):
+    async with driving(async_host) as client:
+        await async_host.page(f"frame {TAB} http://a.test/side")
+        await async_host.page(f"log {TAB} info before the subscription")
         await client.ask("session.subscribe", events=["browsingContext.contextCreated", "log.entryAdded"])
         assert [(await client.event())["url"] for _ in range(2)] == ["about:blank", "http://a.test/side"]
         assert (await client.event())["text"] == "before the subscription"
@@ -212,27 +212,27 @@ async def test_a_late_subscriber_is_told_what_there_is(host):
         assert await client.heard() == []
 
 
-async def test_the_session_of_a_dropped_client_lives_on(host):
-    async with driving(host, "log.entryAdded") as client:
+async def test_the_session_of_a_dropped_client_lives_on(async_host):
+    async with driving(async_host, "log.entryAdded") as client:
         client.socket.transport.abort()
         await client.socket.wait_closed()
-    async with connected(host, f"/session/{SESSION}") as again:
-        host.page(f"log {TAB} error heard again")
+    async with connected(async_host, f"/session/{SESSION}") as again:
+        await async_host.page(f"log {TAB} error heard again")
         assert (await again.event())["text"] == "heard again"
 
 
-async def test_two_connections_speak_for_one_session(host):
-    async with driving(host) as one, connected(host, f"/session/{SESSION}") as two:
+async def test_two_connections_speak_for_one_session(async_host):
+    async with driving(async_host) as one, connected(async_host, f"/session/{SESSION}") as two:
         await two.ask("session.subscribe", events=["log.entryAdded"])
-        host.page(f"log {TAB} info to both")
+        await async_host.page(f"log {TAB} info to both")
         assert [(await each.event())["text"] for each in (one, two)] == ["to both", "to both"]
         assert (await one.ask("browsingContext.getTree")) == (await two.ask("browsingContext.getTree"))
         await two.ask("session.end")
         assert [await each.closed() for each in (one, two)] == [(1000, ""), (1000, "")]
 
 
-async def test_a_page_may_be_a_connection(host):
-    async with driving(host, "log.entryAdded") as client, host.connect("/page") as page:
+async def test_a_page_may_be_a_connection(async_host):
+    async with driving(async_host, "log.entryAdded") as client, async_host.connect("/page") as page:
         for line, words in [(f"log {TAB} info by a socket", "ok"), ("unframe none", "no effect"), ("fly", "no line of a page")]:
             await page.send(line)
             assert tells(await page.recv(), words)
@@ -244,14 +244,14 @@ async def test_a_page_may_be_a_connection(host):
         assert await page.recv() == "ok"
 
 
-async def test_a_reset_makes_a_new_browser(host):
-    async with driving(host) as client:
-        host.page(f"frame {TAB} http://a.test/side")
-        host.page('value {"text":"run()","returns":{"type":"null"}}')
+async def test_a_reset_makes_a_new_browser(async_host):
+    async with driving(async_host) as client:
+        await async_host.page(f"frame {TAB} http://a.test/side")
+        await async_host.page('value {"text":"run()","returns":{"type":"null"}}')
         await client.ask("browsingContext.navigate", context=TAB, url="http://a.test")
-        assert host.page("reset") == "ok"
+        assert await async_host.page("reset") == "ok"
         assert await client.closed() == (1001, "")
-    async with driving(host) as client:
+    async with driving(async_host) as client:
         (only,) = (await client.ask("browsingContext.getTree"))["contexts"]
         assert (only["context"], only["url"], only["children"]) == (TAB, "about:blank", [])
         with pytest.raises(Refused, match="unsupported operation"):
@@ -259,9 +259,9 @@ async def test_a_reset_makes_a_new_browser(host):
 
 
 @pytest.mark.parametrize("resource", ["/", "/session/", "/session/none", "/devtools"])
-async def test_another_resource_is_not_found(host, resource):
+async def test_another_resource_is_not_found(async_host, resource):
     with pytest.raises(websockets.InvalidHandshake, match="404"):
-        async with connected(host, resource):
+        async with connected(async_host, resource):
             pass
 
 
