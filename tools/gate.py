@@ -35,7 +35,7 @@ PROGRAM = [
 # The words of `trials` that `rt ci` does not run, with the files of what they read and of what they have to write.
 TRIALS = ROOT / "crates/trials"
 WORDS = [("bench tree 100", os.devnull, "bench.out"), ("refusals", TRIALS / "refusals.in", "refusals.out")]
-NODE_SUITES = ["examples/clients/node/host.test.js", "examples/clients/node/faults.test.js"]
+NODE_SUITES = [f"examples/clients/node/{name}.test.js" for name in ("host", "faults", "fixture")]
 NODE_PATH = "/usr/share/nodejs"
 seconds = Counter()
 

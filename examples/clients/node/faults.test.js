@@ -1,7 +1,7 @@
 // Tests of a client over faults and commands that the browser in memory does not have: BIDI=path/to/bidi node --test
 const assert = require('node:assert/strict')
 const { test } = require('node:test')
-const { withHost } = require('./host.js')
+const { withHost } = require('./with_host.cjs')
 
 const TAB = '00000000-0002-8000-8000-000000000001' // the tab that stands at the start
 

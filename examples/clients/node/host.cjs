@@ -1,19 +1,16 @@
-// A browser in memory for the tests of a WebDriver BiDi client: `withHost` gives each test a new one.
+// A browser in memory for the tests of a WebDriver BiDi client: `Host` runs one `bidi host`. For any test runner.
 //
-// One `bidi host` serves all tests of a file. The environment variable BIDI is the path of the program, `bidi` if it is not set.
+// The environment variable BIDI is the path of the program, `bidi` if it is not set.
 // The program ends at the end of its standard input, so it never outlives the run.
-// With the environment variable BIDI_RECORD=DIR, the record of each test that fails is kept in DIR.
+// With BIDI_WEBSOCKET=builtin the sockets are those of Node itself.
 const { spawn } = require('node:child_process')
-const fs = require('node:fs')
 const { constants: { signals } } = require('node:os')
-const path = require('node:path')
 const { createInterface } = require('node:readline')
-const nodeTest = require('node:test')
 
 // The WebSocket of Node itself, or that of the package ws.
 const WebSocket = process.env.BIDI_WEBSOCKET === 'builtin' ? globalThis.WebSocket : require('ws')
 const LISTENS = 'WebDriver BiDi listening on '
-const LIMIT = 30_000 // milliseconds for a test, for the start of the program, and for each of its answers
+const LIMIT = 30_000 // milliseconds for the start of the program, and for each of its answers
 
 // A running `bidi host`, at `url`.
 class Host {
@@ -116,14 +113,24 @@ class Host {
   held() {
     if (this.fault) return Promise.reject(this.fault)
     if (this.commands.length > 0) return Promise.resolve(this.commands.shift())
-    return this.killedIfLate(new Promise((resolve, reject) => this.asking.push({ resolve, reject })))
+    const asked = {}
+    const command = new Promise((resolve, reject) => Object.assign(asked, { resolve, reject }))
+    this.asking.push(asked)
+    const timer = setTimeout(() => {
+      this.asking.splice(this.asking.indexOf(asked), 1)
+      asked.reject(new Error(`no command was held in ${LIMIT / 1000} seconds`))
+    }, LIMIT)
+    const settled = command.finally(() => clearTimeout(timer))
+    settled.catch(() => {}) // It may be that the test does not wait for it.
+    return settled
   }
 
-  // Makes the browser new, closes the connections of all clients, and forgets the commands that are held.
+  // Makes the browser new, closes the connections of all clients, forgets the commands that are held, and ends each `held`.
   async reset() {
     const answer = await this.page('reset')
     if (answer !== 'ok') throw new Error(`reset: ${answer}`)
     this.commands = []
+    for (const { reject } of this.asking.splice(0)) reject(new Error('the browser was made new'))
   }
 
   // A socket that is open. A test need not close it.
@@ -162,124 +169,4 @@ function fault(text) {
   return Object.assign(new Error(text), { stack: text })
 }
 
-// The records of one host, which begins a new file at each `reset`. They are in a folder of their own inside `folder`.
-class Records {
-  constructor(folder) {
-    fs.mkdirSync(folder, { recursive: true })
-    this.folder = folder
-    this.written = fs.mkdtempSync(path.join(folder, 'host-'))
-    this.options = ['--record', path.join(this.written, 'play')]
-  }
-
-  // The files that the host wrote and that were not kept, in order: play, play.2, play.3 and so on.
-  files() {
-    const order = (a, b) => a.length - b.length || (a < b ? -1 : 1)
-    return fs.readdirSync(this.written).sort(order).map(file => path.join(this.written, file))
-  }
-
-  // The files that are kept for a test: NAME.play, NAME.2.play and so on, which may or may not be there.
-  * kept(name) {
-    for (let number = 1; ; number += 1) yield path.join(this.folder, number === 1 ? `${name}.play` : `${name}.${number}.play`)
-  }
-
-  // Removes the files of earlier tests, and what an earlier run kept of this test.
-  begin(name) {
-    for (const file of this.files().slice(0, -1)) fs.unlinkSync(file)
-    for (const file of this.kept(name)) {
-      if (!fs.existsSync(file)) break
-      fs.unlinkSync(file)
-    }
-  }
-
-  // Moves the files of this test to those that are kept, and gives these.
-  keep(name) {
-    const kept = this.kept(name)
-    return this.files().filter(file => fs.statSync(file).size > 0).map(file => {
-      const { value } = kept.next()
-      fs.renameSync(file, value)
-      return value
-    })
-  }
-
-  // Removes the files that were not kept.
-  end() {
-    fs.rmSync(this.written, { recursive: true })
-  }
-}
-
-let host, records // of all tests of the file
-const names = new Set()
-let turn = Promise.resolve() // when the test before has ended
-
-// The name for the records of a test: its file and its name, in letters, digits, `_` and `-`.
-function recordName(test) {
-  const file = path.relative(process.cwd(), process.argv[1])
-  let name = `${file}-${test}`.replace(/\W+/g, '-').replace(/^-|-$/g, '').slice(0, 150)
-  while (names.has(name)) name += '-2'
-  names.add(name)
-  return name
-}
-
-// A host with a new browser. Another host takes the place of one that has ended.
-async function begin(record) {
-  if (host === undefined || host.fault) {
-    await end()
-    records = process.env.BIDI_RECORD ? new Records(process.env.BIDI_RECORD) : undefined
-    host = await Host.start(...records?.options ?? [])
-  }
-  await host.reset()
-  records?.begin(record)
-  return host
-}
-
-// Ends the host and gives its status.
-async function end() {
-  const status = await host?.end()
-  records?.end()
-  host = records = undefined
-  return status
-}
-
-// Runs a test with a new browser, for at most so many milliseconds.
-async function runTest(run, t, timeout) {
-  const record = recordName(t.fullName ?? t.name)
-  const host = await begin(record)
-  let timer
-  const stopped = new Promise((_, reject) => {
-    timer = setTimeout(() => reject(new Error(`the test took more than ${timeout} milliseconds`)), timeout)
-    t.signal.addEventListener('abort', () => reject(new Error('the test was stopped')))
-  })
-  stopped.catch(() => {}) // Node stops the signal of each test, also of one that has ended.
-  try {
-    await Promise.race([run(host, t), host.failure, stopped])
-    host.cut()
-    await host.reset()
-  } catch (error) {
-    for (const file of records?.keep(record) ?? []) t.diagnostic(`record: ${file}; look at it: python3 tools/look.py ${file} > look.html`)
-    host.cut()
-    if (await host.hasEnded(100)) throw error === host.fault ? error : Object.assign(host.fault, { cause: error })
-    for (const line of host.errors) t.diagnostic(`standard error: ${line}`)
-    await host.reset()
-    throw error
-  } finally {
-    clearTimeout(timer)
-  }
-}
-
-// What Node's `test` takes for a test with a new browser: `test('name', withHost(async host => { .. }))`.
-// `run` gets the host and the context of Node's test. One test runs at a time, since all share the host.
-function withHost(run, { timeout = LIMIT } = {}) {
-  return t => {
-    const result = turn.then(() => runTest(run, t, timeout))
-    turn = result.catch(() => {})
-    return result
-  }
-}
-
-nodeTest.after(async () => {
-  const last = host
-  const known = last?.fault // A test has failed by it.
-  if (await end() !== 0 && last && !known) throw last.fault
-})
-
-module.exports = { Host, withHost }
+module.exports = { Host }
