@@ -1,11 +1,16 @@
 #!/usr/bin/env python3
-"""Shows a play as a sequence chart: look.py [--bidi PROGRAM] RECORD > look.html
+"""Shows a play or a conversation as a sequence chart: look.py [--bidi PROGRAM] RECORD > look.html
 
-RECORD is a record of `bidi host --record FILE`, or any other play. `-` is standard input. A record has only the lines that
-came in. `bidi play` writes what was sent for them, so the tool runs it: PROGRAM, else the environment variable BIDI, else
-`bidi` on the path. After each line the tool sends a message on a connection that is never open. `play` writes one `lost` line
-for it, which marks the end of the output of the line before. The result is one HTML file without dependencies, readable
-without scripts. Its script adds a filter and highlights a command together with its reply.
+RECORD is a record of `bidi host --record FILE`, any other play, or a conversation as `bidi check --both` reads it. `-` is
+standard input. The first line decides: a conversation begins with `< `, or with `> ` and no number of a connection.
+
+A play has only the lines that came in. `bidi play --scripted` writes what was sent for them, so the tool runs it: PROGRAM, else
+the environment variable BIDI, else `bidi` on the path. After each line the tool sends a message on a connection that is never
+open. `play` writes one `lost` line for it, which marks the end of the output of the line before. A conversation has both
+directions, so no program is run.
+
+The result is one HTML file without dependencies, readable without scripts. Its script adds a filter and highlights a command
+together with its reply.
 """
 import argparse
 import base64
@@ -31,8 +36,23 @@ WIDE = 70  # pixels of the lanes of the browser and of the page
 KINDS = ("session", "context", "realm", "navigation", "subscription", "handle", "window", "user context")
 ID = re.compile(r"([0-9a-f]{8})-000([1-8])-8000-8000-([0-9a-f]{12})")
 STRING, BLANKS = re.compile(r'"[^"\\]*(?:\\.[^"\\]*)*"'), re.compile(r"[ \t\r\n]*")
-WRITTEN = re.compile(rb"(opened|denied|close|lost) \d+|no effect|< \d+ \{.*\}")  # the lines that bidi play writes
+FIELDS = ("on", "release", "send", "bytes", "cut", "close")  # the lines of a test whose first field is shown with the word
+FOLDED = ("value", "answer", "hold", "emit", "on", "release", "send")  # the lines whose last field folds, however short
+# The lines that `bidi play --scripted` writes.
+WRITTEN = re.compile(rb"(opened|denied|lost|cut) \d+|close \d+( \d+)?|no effect(: .*)?|< \d+ .*|held \d+ \d+ .*|bytes \d+ \w*")
+TALK = re.compile(rb"< |> (?!\d+ )")  # how a conversation begins
+# What to do about a line that is not a line of a play, by its form.
+ADVICE = (
+    (rb"", "it is empty; remove it"),
+    (rb"\xef\xbb\xbf.*", "it begins with a byte order mark; remove the mark"),
+    (rb".*\r", "it ends in a carriage return; end lines in a line feed only"),
+    (rb"reset|end", "no record has a `reset` or an `end`; remove it, and draw each file of a record by itself"),
+    (rb">.*", "a message of a client has the number of its connection, as in `> 1 TEXT`"),
+    (rb"(<|opened|denied|lost|held|no effect).*", "`bidi play` writes such lines; draw the record from which it made them"),
+    (rb"[{\[].*", "docs/CHECKING.md says how to turn a log into the lines of a conversation"),
+    (rb".*", "docs/FORMATS.md lists the lines of a play, in Play lines and in Scripted plays"))
 CONTROL = re.compile(r"[\0-\x09\x0b-\x1f\x7f]")  # without the line feed, which only `layout` makes
+OTHER = "name another program with --bidi or with the environment variable BIDI"
 
 
 class Fault(Exception):
@@ -52,12 +72,13 @@ class Row:
     text: str = ""  # all of a text that folds
     id: Optional[int] = None
     marks: List[str] = field(default_factory=list)
-    pair: Optional["Row"] = None  # the reply to a command, the command of a reply
+    pair: Optional["Row"] = None  # the reply to a command, the command of a reply; the release of a held command, and back
     open: FrozenSet[str] = frozenset()  # the connections that are open throughout this row
     busy: str = ""  # this row's part of the bar from a command to its reply
+    waits: bool = False  # whether a command is held at this row
 
 
-# Running `bidi play`
+# Reading a record, and running `bidi play --scripted`
 
 
 def find_program(named):
@@ -86,19 +107,40 @@ def unused_number(lines):
     return next(number for number in range(MOST, 0, -1) if b"%d" % number not in used)
 
 
+def advice(line, is_whole):
+    """Says what to do about a line that is not a line of a play."""
+    if not is_whole:
+        return "it has no line feed at its end; add one, or remove the line if it is cut off"
+    if line.decode(errors="ignore").encode() != line:
+        return "it is not UTF-8; convert it, or remove it"
+    return next(text for form, text in ADVICE if re.fullmatch(form, line, re.DOTALL))
+
+
+def talk(record, name):
+    """Lists each line of a conversation with its direction."""
+    lines = record.split(b"\n")
+    lines = lines if lines[-1] else lines[:-1]
+    for number, line in enumerate(lines, 1):
+        if line[:2] not in (b"> ", b"< "):
+            raise Fault(f"{name}:{number}: not a line of a conversation: begin it with `> ` or `< `, or remove it")
+    return [(line[:1], line[2:]) for line in lines]
+
+
 def play(program, record, name):
-    """Lists each line of the record with the lines that `bidi play` writes for it."""
+    """Lists each line of the record with the lines that `bidi play --scripted` writes for it."""
     *lines, rest = record.split(b"\n")
     number = unused_number(lines)
     asked = b"".join(b"%b\n> %d {}\n" % (line, number) for line in lines) + rest
     try:
-        done = subprocess.run([program, "play"], input=asked, stdout=subprocess.PIPE, stderr=subprocess.PIPE)
+        done = subprocess.run([program, "play", "--scripted"], input=asked, stdout=subprocess.PIPE, stderr=subprocess.PIPE)
     except OSError as error:
         raise Fault(f"cannot run {program}: {error.strerror}")
-    said = done.stderr.decode(errors="replace").strip().split("\n")[-1]
+    told = done.stderr.decode(errors="replace").strip().split("\n")
+    said = next((line for line in told if line.startswith(("bidi: ", "error: "))), told[-1])
     bad = re.search(r"line (\d+) is no play line", said)
     if bad:
-        raise Fault(f"{name}: bidi play: line {(int(bad[1]) + 1) // 2} is no play line")
+        place = (int(bad[1]) - 1) // 2
+        raise Fault(f"{name}:{place + 1}: not a line of a play: {advice([*lines, rest][place], place < len(lines))}")
     answers = [[]]
     for line in done.stdout.split(b"\n")[:-1]:
         if line == b"lost %d" % number:
@@ -106,9 +148,11 @@ def play(program, record, name):
         elif WRITTEN.fullmatch(line):
             answers[-1].append(line.decode(errors="replace"))
         else:
-            raise Fault(f"{program} play wrote a line that bidi play does not write")
+            raise Fault(f"{program} play --scripted wrote a line that bidi does not write: {OTHER}")
     if done.returncode or len(answers) != len(lines) + 1:
-        raise Fault(f"{name}: {program} play ended with status {done.returncode}: {said or 'some lines have no end'}")
+        said = said or "some lines have no end"
+        more = "" if said.startswith("bidi: ") else f": {OTHER}"
+        raise Fault(f"{name}: {program} play --scripted ended with status {done.returncode}: {said}{more}")
     return list(zip((line.decode(errors="replace") for line in lines), answers))
 
 
@@ -187,34 +231,111 @@ def layout(text, indent="", name=""):
 # Rows
 
 
-class Chart:
-    """The rows of a play, in steps: a line that came in, and the lines that were sent for it."""
+def as_id(tree):
+    """The id of a message, or None if it has none that is a js-uint."""
+    found = tree.get("id") if isinstance(tree, dict) else None
+    return found if type(found) is int and 0 <= found <= MOST else None
 
-    def __init__(self, played):
-        self.lanes, self.open, self.moment, self.sent, self.command = {}, frozenset(), "0", 0, None
-        self.steps = [self.step(number, line, answers) for number, (line, answers) in enumerate(played, 1)]
-        self.rows = [row for step in self.steps for row in step]
+
+def join(command, row):
+    """Joins a command and its reply."""
+    row.pair, command.pair, row.label = command, row, command.label
+
+
+class Chart:
+    """The rows of a play or of a conversation, in steps: a line that came in, and the lines that were sent for it."""
+
+    def __init__(self, moment):
+        self.lanes, self.open, self.moment, self.held = {}, frozenset(), moment, {}
+
+    def take(self, steps):
+        """Takes the steps, and marks the commands without a reply."""
+        self.steps, self.rows = steps, [row for step in steps for row in step]
         for row in self.rows:
             row.marks += ["never answered"] if row.kind == "command" and not row.pair else []
-
-    def step(self, number, line, answers):
-        """Makes the rows of one step. `play` answers each message in its step."""
-        rows = [self.came(f"i{number}", line)]
-        self.command = rows[0] if rows[0].kind == "command" else None
-        for answer in answers:
-            self.sent += 1
-            rows.append(self.went(f"o{self.sent}", answer))
-        if rows[0].pair:
-            last = rows.index(rows[0].pair)
-            for place, row in enumerate(rows[: last + 1]):
-                row.busy = "busy first" if place == 0 else "busy last" if place == last else "busy"
-        return rows
 
     def row(self, name, kind, connection=None, **more):
         """Makes a row at this moment. Its connection, if it has one, gets a lane."""
         if connection is not None:
             self.lanes.setdefault(connection, len(self.lanes))
-        return Row(name, kind, self.moment, connection, open=self.open, **more)
+        return Row(name, kind, self.moment, connection, open=self.open, waits=bool(self.held), **more)
+
+    def asked(self, name, connection, text):
+        """Makes the row of a message of a client."""
+        row = self.row(name, "command", connection, label="no command", brief=brief(text), text=text)
+        try:
+            tree = read_json(text)
+            if len(text.encode()) > MOST_BYTES:
+                raise ValueError("too long")
+        except ValueError:
+            row.label, row.marks = "", ["not JSON"]
+            return row
+        row.id = as_id(tree)
+        if isinstance(tree, dict) and isinstance(tree.get("method"), str):
+            row.label, row.brief = tree["method"], brief_member(text.strip(), "params")
+        return row
+
+    def message(self, name, connection, text):
+        """Makes the row of a message that was sent: an event, a reply, or something that is neither."""
+        row = self.row(name, "other", connection, label="no message", brief=brief(text), text=text)
+        try:
+            tree = read_json(text)
+        except ValueError:
+            row.label, row.marks = "", ["not JSON"]
+            return row
+        row.id, said = as_id(tree), tree.get("type") if isinstance(tree, dict) else None
+        if said == "event" and isinstance(tree.get("method"), str):
+            row.kind, row.label, row.brief = "event", tree["method"], brief_member(text.strip(), "params")
+        elif said == "success":
+            row.kind, row.label, row.brief = "reply", "", brief_member(text.strip(), "result")
+        elif said == "error":
+            code, words = tree.get("error"), tree.get("message")
+            row.kind, row.label, row.marks = "error", "", [code if isinstance(code, str) else "error"]
+            row.brief = "" if words == code else brief_member(text.strip(), "message")
+        return row
+
+
+class Play(Chart):
+    """The rows of a play."""
+
+    has_page, widest = True, 84
+    columns = (("in", "line of the record"), ("out", "line that bidi play writes"), ("moment", "the clock"))
+    legend = (("command", "command"), ("reply", "reply"), ("error", "error"), ("event", "event"), ("page", "page"),
+              ("clock", "clock"), ("open", "open"), ("begin", "opened"), ("end", "closed"), ("stop", "denied or lost"))
+    counted = ("never answered", "not JSON", "denied", "lost", "close", "no effect")
+
+    def __init__(self, played):
+        super().__init__("0")
+        self.sent, self.command, self.waiting = 0, None, []
+        self.take([self.step(number, line, answers) for number, (line, answers) in enumerate(played, 1)])
+
+    def lane(self, connection, width):
+        """The name of a lane of this width."""
+        return f"connection {connection}" if width > 70 else connection if width > 16 else ""
+
+    def step(self, number, line, answers):
+        """Makes the rows of one step. `play` answers a message in its step, or in that of its release."""
+        came = self.came(f"i{number}", line)
+        released = self.released(came, line, answers)
+        self.command = came if came.kind == "command" else released
+        rows = [came]
+        for answer in answers:
+            self.sent += 1
+            rows.append(self.went(f"o{self.sent}", answer))
+        last = next((place for place, row in enumerate(rows) if row.kind == "held" or row.pair and row.pair is self.command), 0)
+        for place, row in enumerate(rows[: last + 1] if last else []):
+            row.busy = "busy first" if place == 0 else "busy last" if place == last else "busy"
+        return rows
+
+    def released(self, came, line, answers):
+        """The command that a line releases, if it does. Its row and that of the line are joined."""
+        word, _, rest = line.partition(" ")
+        number = rest.partition(" ")[0]
+        if word != "release" or number not in self.held or answers[:1] and answers[0].startswith("no effect"):
+            return None
+        row, command = self.held.pop(number)
+        row.pair, came.pair = came, row
+        return command
 
     def came(self, name, line):
         """Makes the row of a line of the play."""
@@ -229,51 +350,101 @@ class Chart:
             return self.row(name, "command", connection, label="binary message", marks=["not JSON"])
         if word in ("open", "drop"):
             kind = "end" if word == "drop" and connection in self.open else "open"
-            self.open -= {connection} if word == "drop" else frozenset()
+            if word == "drop":
+                self.end(connection)
             return self.row(name, kind, connection, label=word, brief=brief(text))
-        folds = word == "value" or len(rest) > BRIEF
-        return self.row(name, "page", label=word, brief=brief(rest), text=rest if folds else "")
+        label, text = (f"{word} {connection}", text) if word in FIELDS else (word, rest)
+        folds = word in FOLDED or len(text) > BRIEF
+        return self.row(name, "page", label=label, brief=brief(text), text=text if folds else "")
 
-    def asked(self, name, connection, text):
-        """Makes the row of a message of a client."""
-        row = self.row(name, "command", connection, label="no command", brief=brief(text), text=text)
-        try:
-            tree = read_json(text)
-            if len(text.encode()) > MOST_BYTES:
-                raise ValueError("too long")
-        except ValueError:
-            row.label, row.marks = "", ["not JSON"]
-            return row
-        if isinstance(tree, dict):
-            row.id = tree["id"] if type(tree.get("id")) is int and 0 <= tree["id"] <= MOST else None
-            if isinstance(tree.get("method"), str):
-                row.label, row.brief = tree["method"], brief_member(text.strip(), "params")
-        return row
+    def end(self, connection):
+        """Ends a connection. Its commands wait no more."""
+        self.open -= {connection}
+        self.waiting = [row for row in self.waiting if row.connection != connection]
 
     def went(self, name, line):
         """Makes the row of a line that `bidi play` wrote."""
         word, _, rest = line.partition(" ")
         connection, _, text = rest.partition(" ")
         if word == "<":
-            return self.message(name, connection, text)
-        if line == "no effect":
-            return self.row(name, "void", marks=[line])
-        self.open -= {connection} if word == "close" else frozenset()
-        kind = {"opened": "begin", "close": "end"}.get(word, "stop")
-        row = self.row(name, kind, connection, marks=[word])
+            return self.answered(self.message(name, connection, text))
+        if word == "no":
+            return self.row(name, "void", marks=["no effect"], brief=brief(line[len("no effect: "):]))
+        if word == "held":
+            return self.hold(name, connection)
+        if word == "bytes":
+            folded = text if len(text) > BRIEF else ""
+            return self.row(name, "other", connection, label="binary message", brief=brief(text), text=folded)
+        if word in ("close", "cut"):
+            self.end(connection)
+        kind = {"opened": "begin", "close": "end", "cut": "end"}.get(word, "stop")
+        row = self.row(name, kind, connection, marks=[word], brief=text)
         self.open |= {connection} if word == "opened" else frozenset()
         return row
 
-    def message(self, name, connection, text):
-        """Makes the row of a message that was sent: an event, or a reply, which is joined to its command."""
-        tree = json.loads(text)
-        if tree["type"] == "event":
-            return self.row(name, "event", connection, label=tree["method"], brief=brief_member(text, "params"), text=text)
-        kind = "error" if tree["type"] == "error" else "reply"
-        row = self.row(name, kind, connection, text=text, id=tree["id"], brief=brief_member(text, "result"))
-        if self.command and not self.command.pair and self.command.connection == connection:
-            row.pair, self.command.pair, row.label = self.command, row, self.command.label
-        row.marks += [tree["error"]] if kind == "error" else []
+    def hold(self, name, number):
+        """Makes the row that says that the command of this step is held."""
+        self.waiting.append(self.command)
+        self.held[number] = None
+        command = self.command
+        row = self.row(name, "held", command.connection, label=command.label, id=command.id, marks=[f"held {number}"])
+        self.held[number] = row, command
+        return row
+
+    def answered(self, row):
+        """Joins a reply to the command of this step, or else to a held command with its id. A test can send any other."""
+        ours = [self.command] if self.command else [each for each in self.waiting if row.id is not None and each.id == row.id]
+        found = next((each for each in ours if each.connection == row.connection and not each.pair), None)
+        if found and row.kind != "event":
+            join(found, row)
+        row.marks += ["stray"] if not found and row.kind in ("reply", "error") else []
+        return row
+
+
+class Conversation(Chart):
+    """The rows of a conversation: a message of the client, and those of the browser up to the next one."""
+
+    has_page, widest = False, 160
+    columns = (("in", "line with a message of the client"), ("out", "line with a message of the browser"), ("", ""))
+    legend = (("command", "command"), ("reply", "reply"), ("error", "error"), ("event", "event"))
+    counted = ("never answered", "not JSON")
+
+    def __init__(self, lines):
+        super().__init__("")
+        self.open, self.waiting, self.last, steps = frozenset({""}), {}, None, []
+        for number, (mark, data) in enumerate(lines, 1):
+            text = data.decode(errors="replace")
+            row = self.sent(f"i{number}", text) if mark == b">" else self.got(f"o{number}", text)
+            row.marks += ["not UTF-8"] if text.encode() != data else []
+            if mark == b">" or not steps:
+                steps.append([])
+            steps[-1].append(row)
+        self.take(steps)
+
+    def lane(self, connection, width):
+        """The name of the lane."""
+        return "client"
+
+    def sent(self, name, text):
+        """Makes the row of a message of the client, which waits for an answer unless one with its id does."""
+        self.last = row = self.asked(name, "", text)
+        if row.id is not None and self.waiting.setdefault(row.id, row) is not row:
+            row.marks.append("id waits")
+        return row
+
+    def got(self, name, text):
+        """Makes the row of a message of the browser, which answers the command with its id, unless it is an event.
+
+        An error without an id answers the last message of the client, if that has no id either.
+        """
+        row, last = self.message(name, "", text), self.last
+        if row.id is not None and row.kind != "event":
+            found = self.waiting.pop(row.id, None)
+        else:
+            found = last if row.kind == "error" and last and last.id is None and not last.pair else None
+        if found:
+            join(found, row)
+        row.marks += ["stray"] if not found and row.kind in ("reply", "error") else []
         return row
 
 
@@ -296,18 +467,19 @@ def unfolded(text):
 
 
 def link(row):
-    """The link from a command to its reply, or back."""
+    """The link from a command to its reply, from a held command to its release, or back."""
     if not row.pair:
         return ""
-    way, what = ("↓", "its reply") if row.kind == "command" else ("↑", "its command")
+    links = {"command": ("↓", "its reply"), "held": ("↓", "its release"), "page": ("↑", "the held command")}
+    way, what = links.get(row.kind, ("↑", "its command"))
     return f'<a href="#{row.pair.name}" title="{what}">{way} {row.pair.name[1:]}</a>'
 
 
 def says(row):
     """What a row says: its connection, label, id and marks, and its text, folded."""
-    said = [f'<span class="conn">{shown(row.connection)}</span>'] if row.connection is not None else []
+    said = [f'<span class="conn">{shown(row.connection)}</span>'] if row.connection else []
     said += [f"<b>{shown(row.label)}</b>"] if row.label else []
-    if row.kind in ("command", "reply", "error"):
+    if row.kind in ("command", "held", "reply", "error"):
         said += ['<span class="id">%s</span>' % ("no id" if row.id is None else f"id {row.id}")]
     said += [f"<mark>{shown(mark)}</mark>" for mark in row.marks]
     said += [f"<code>{shown(row.brief)}</code>"] if row.brief else []
@@ -318,10 +490,12 @@ def says(row):
 
 def counts(chart):
     """The counts at the top, each with a link to its first row."""
-    kinds = (("messages in", "command"), ("messages out", "reply error event"), ("events", "event"), ("errors", "error"))
+    kinds = (("messages in", "command"), ("messages out", "reply error event other"), ("events", "event"), ("errors", "error"))
     found = [(name, [row for row in chart.rows if row.kind in each.split()]) for name, each in kinds]
-    marks = ("never answered", "not JSON", "denied", "lost", "close", "no effect")
-    found += [(mark, [row for row in chart.rows if mark in row.marks]) for mark in marks]
+    found += [(mark, [row for row in chart.rows if mark in row.marks]) for mark in chart.counted]
+    rare = [("held", [row for row in chart.rows if row.kind == "held"])]
+    rare += [(mark, [row for row in chart.rows if mark in row.marks]) for mark in ("cut", "stray", "id waits", "not UTF-8")]
+    found += [(name, rows) for name, rows in rare if rows]
     return " ".join(f'<a href="#{rows[0].name}">{name} <b>{len(rows)}</b></a>' if rows else f"<span>{name} <b>0</b></span>"
                     for name, rows in found)
 
@@ -329,26 +503,29 @@ def counts(chart):
 def drawing(chart):
     """Draws the lanes: the style of each, the names at their heads, and a number for each set of open connections."""
     count = len(chart.lanes)
-    lane = min(84, 330 / max(count, 1))
+    lane = min(chart.widest, 330 / max(count, 1))
     middle = {each: (place + 0.5) * lane for each, place in chart.lanes.items()}
-    width, browser, page = count * lane + 2 * WIDE, count * lane + 0.5 * WIDE, count * lane + 1.5 * WIDE
+    sides = {"browser": count * lane + 0.5 * WIDE, **({"page": count * lane + 1.5 * WIDE} if chart.has_page else {})}
+    width, browser, page = count * lane + len(sides) * WIDE, sides["browser"], sides.get("page", 0)
     color, half = "#d0d7de" if lane > 6 else "transparent", lane / 2
     line = f"transparent 0 {half - 0.5}px,{color} 0 {half + 0.5}px,transparent 0 {lane}px"
     lines = [f"repeating-linear-gradient(90deg,{line}) 0 0/{count * lane}px 100% no-repeat"]
-    lines += [f"var(--line) {at - 0.5}px 0/1px 100% no-repeat" for at in (browser, page)]
-    digits, moment = len(str(max(chart.sent, len(chart.steps)))), max((len(row.moment) for row in chart.rows), default=1)
-    columns = [max(40, 12 + 8 * digits)] * 2 + [max(64, 12 + 8 * moment), width, max(48, 24 + 8 * digits)]
+    lines += [f"var(--line) {at - 0.5}px 0/1px 100% no-repeat" for at in sides.values()]
+    digits = max((len(row.name) - 1 for row in chart.rows), default=1)
+    moment = max((len(row.moment) for row in chart.rows), default=1)
+    columns = [max(40, 12 + 8 * digits)] * 2 + [max(64, 12 + 8 * moment) if chart.has_page else 8, width, max(48, 24 + 8 * digits)]
     style = [f".row{{grid-template-columns:{''.join(f'{each}px ' for each in columns)}minmax(0,1fr)}}",
              f"main .chart{{background:{','.join(lines)}}}",
              f".busy .chart::before{{left:{browser - 4}px}} main .void i{{left:{page}px}}",
-             f"main .page i,main .clock i{{left:{browser}px;right:{width - page}px}}"]
+             f"main .page i,main .clock i{{left:{browser}px;right:{width - page}px}}",
+             f"main .held i{{left:{browser}px}} .waits .chart::after{{left:{browser + 6}px}}"]
     style += [f".c{place} i{{left:{middle[each]:.1f}px;right:{width - browser}px}}" for each, place in chart.lanes.items()]
     sets = {each: place for place, each in enumerate(dict.fromkeys(row.open for row in chart.rows))}
     for each, place in sets.items():
         opens = [f"var(--open) {middle[one] - 1:.1f}px 0/2px 100% no-repeat" for one in middle if one in each]
         style.append(f".o{place} .chart{{background:{','.join(opens + lines)}}}")
-    names = [(at, lane, each, f"connection {each}" if lane > 70 else each if lane > 16 else "") for each, at in middle.items()]
-    names += [(browser, WIDE, "browser", "browser"), (page, WIDE, "page", "page")]
+    names = [(at, lane, each, chart.lane(each, lane)) for each, at in middle.items()]
+    names += [(at, WIDE, side, side) for side, at in sides.items()]
     heads = "".join(f'<span style="left:{at - wide / 2:.1f}px;width:{wide:.1f}px" title="{shown(title)}">{shown(name)}</span>'
                     for at, wide, title, name in names)
     return "\n".join(style), heads, sets
@@ -358,7 +535,8 @@ def row_html(row, lane, lines):
     """A row: the numbers of its line, the moment, the chart, the link of its pair, and what it says."""
     came, went = (row.name[1:], "") if row.name[0] == "i" else ("", row.name[1:])
     never = "never" if "never answered" in row.marks else ""
-    return (f'<div id="{row.name}" class="row {row.kind} {row.busy} {never} o{lines} c{lane}"><span class="n">{came}</span>'
+    waits = " waits" if row.waits else ""
+    return (f'<div id="{row.name}" class="row {row.kind} {row.busy} {never} o{lines} c{lane}{waits}"><span class="n">{came}</span>'
             f'<span class="n">{went}</span><span class="n">{shown(row.moment)}</span><span class="chart"><i></i></span>'
             f'<span class="pair">{link(row)}</span>{says(row)}</div>')
 
@@ -366,6 +544,10 @@ def row_html(row, lane, lines):
 def page(chart, name):
     """The whole page."""
     style, heads, sets = drawing(chart)
+    columns = "\n".join(f'<span class="n" title="{title}">{column}</span>' for column, title in chart.columns)
+    kinds = {row.kind for row in chart.rows}
+    legend = chart.legend + tuple(each for each in (("held", "held"), ("other", "other message")) if each[0] in kinds)
+    legend = "".join(f'<span class="row {kind}"><span class="chart"><i></i></span>{text}</span>' for kind, text in legend)
     steps = "\n".join('<section>%s</section>' % "".join(row_html(row, chart.lanes.get(row.connection, ""), sets[row.open])
                                                        for row in step) for step in chart.steps)
     hashed = base64.b64encode(hashlib.sha256(SCRIPT.encode()).digest()).decode()
@@ -375,18 +557,13 @@ def page(chart, name):
 content="default-src 'none'; style-src 'unsafe-inline'; script-src 'sha256-{hashed}'">
 <style>{STYLE}{style}</style></head><body>
 <header><p id="tools" hidden><span id="left"></span> <input id="filter" type="search" placeholder="filter"></p>
-<h1>{shown(name)}</h1><p class="counts">{counts(chart)}</p><p class="legend">{LEGEND}</p></header>
-<div class="row head"><span class="n" title="line of the record">in</span>
-<span class="n" title="line that bidi play writes">out</span><span class="n" title="the clock">moment</span>
+<h1>{shown(name)}</h1><p class="counts">{counts(chart)}</p><p class="legend">{legend}</p></header>
+<div class="row head">{columns}
 <span class="chart">{heads}</span><span class="pair">pair</span><span>message</span></div>
 <main>{steps}</main>
 <script>{SCRIPT}</script></body></html>
 """
 
-
-LEGEND = "".join(f'<span class="row {kind}"><span class="chart"><i></i></span>{name}</span>' for kind, name in (
-    ("command", "command"), ("reply", "reply"), ("error", "error"), ("event", "event"), ("page", "page"), ("clock", "clock"),
-    ("open", "open"), ("begin", "opened"), ("end", "closed"), ("stop", "denied or lost")))
 
 STYLE = """
 :root{--open:linear-gradient(#0969da,#0969da);--line:linear-gradient(#d0d7de,#d0d7de)}
@@ -398,23 +575,27 @@ header{padding:12px 16px 0} h1{font-size:20px;margin:0 0 4px} p{margin:4px 0} #t
     text-underline-offset:3px}
 .counts span{color:#8c959f}
 .row{display:grid;--c:#57606a}
-.command{--c:#0969da} .reply{--c:#1a7f37} .error,.stop,.never{--c:#cf222e} .event{--c:#8250df}
+.command,.held{--c:#0969da} .reply{--c:#1a7f37} .error,.stop,.never{--c:#cf222e} .event{--c:#8250df}
 .page,.clock,.void{--c:#9a6700}
 section{border-top:1px solid #e6eaef;content-visibility:auto;contain-intrinsic-size:auto 49px}
 section:nth-child(even){background:#f6f8fa}
 .n{padding-right:8px;text-align:right;color:#8c959f;font-size:12px;font-variant-numeric:tabular-nums}
-.head{position:sticky;top:0;z-index:1;align-items:end;padding:6px 0;background:#fff;border-bottom:2px solid #8c959f;
+.head{position:sticky;top:0;z-index:2;align-items:end;padding:6px 0;background:#fff;border-bottom:2px solid #8c959f;
     font:600 12px/15px sans-serif}
 .head .chart span{position:absolute;bottom:0;text-align:center;overflow:hidden;text-overflow:ellipsis}
 .chart{position:relative;min-height:24px} .head .chart{min-height:30px}
 .chart i{position:absolute;top:11px;border-top:2px solid var(--c)}
 .chart i::after{content:"";position:absolute;top:-6px;border:5px solid transparent}
 .command i::after,.open i::after{right:0;border-left:9px solid var(--c);border-right:0}
-.reply i::after,.error i::after,.event i::after,.page i::after{left:0;border-right:9px solid var(--c);border-left:0}
+.reply i::after,.error i::after,.event i::after,.other i::after,.page i::after{left:0;border-right:9px solid var(--c);border-left:0}
 .reply i,.error i,.open i,.clock i{border-top-style:dashed}
 .clock i::after{left:auto;right:-5px;top:-7px;width:11px;height:11px;border:2px solid var(--c);border-radius:50%;
     background:#fff}
-.begin i,.end i,.stop i,.void i{border:0;right:auto!important}
+.begin i,.end i,.stop i,.void i,.held i{border:0;right:auto!important}
+.held i::after{left:-5px;top:-6px;width:10px;height:13px;border:solid var(--c);border-width:0 3px;background:#fff}
+.waits .chart::after{content:"";position:absolute;top:0;bottom:0;width:5px;
+    background:repeating-linear-gradient(135deg,#0969da 0 2px,#cfe3fb 2px 5px)}
+.waits i{z-index:1}
 .begin i{bottom:0;margin-left:-1px;border-left:2px solid #0969da}
 .begin i::after{left:-6px;top:-5px;width:10px;height:10px;border:0;border-radius:50%;background:#0969da}
 .end i{top:0;height:12px;margin-left:-1px;border-left:2px solid #0969da}
@@ -431,13 +612,13 @@ section:nth-child(even){background:#f6f8fa}
 b{font-weight:600;color:var(--c)} .counts b{color:inherit} .id{color:#57606a;font-size:12px}
 .conn{display:inline-block;min-width:18px;padding:0 4px;border-radius:9px;background:#eaeef2;font-size:11px;
     line-height:16px;text-align:center}
-mark{padding:1px 7px;border-radius:9px;background:var(--c);color:#fff;font-size:12px} .command mark{background:#bc4c00}
+mark{padding:1px 7px;border-radius:9px;background:var(--c);color:#fff;font-size:12px} .command mark,.reply mark{background:#bc4c00}
 .never mark{background:#cf222e}
 code,pre{font:12px/18px ui-monospace,"DejaVu Sans Mono",monospace;unicode-bidi:isolate} code{color:#57606a}
 pre{margin:2px 8px 8px 17px;padding:8px;background:#fff;border:1px solid #d0d7de;border-radius:6px;white-space:pre-wrap;
     overflow-wrap:anywhere}
 .legend .row{display:inline-flex;margin-right:16px;gap:6px} .legend .chart{width:34px} .legend .chart i{left:2px;right:2px}
-.legend .begin i,.legend .end i,.legend .stop i{left:17px} .legend .clock i{right:8px}
+.legend .begin i,.legend .end i,.legend .stop i,.legend .held i{left:17px} .legend .clock i{right:8px}
 main .row{scroll-margin-top:60px} :target,.lit{background:#fff3c4}
 """
 
@@ -462,20 +643,25 @@ filter();
 """
 
 
-def main():
+def main(arguments=None):
     """Reads the command line and writes the page."""
-    parser = argparse.ArgumentParser(description="Shows a play as a sequence chart, one HTML file on standard output.")
+    parser = argparse.ArgumentParser(
+        description="Shows a play or a conversation as a sequence chart, one HTML file on standard output.")
     parser.add_argument("--bidi", metavar="PROGRAM", help="the program bidi; without it BIDI of the environment, else bidi")
-    parser.add_argument("record", metavar="RECORD", help="a record of bidi host, or any other play; - is standard input")
-    options = parser.parse_args()
+    parser.add_argument("record", metavar="RECORD", help="a record of bidi host, any other play, or a conversation as "
+                        "bidi check --both reads it; - is standard input")
+    options = parser.parse_args(arguments)
+    name = "standard input" if options.record == "-" else options.record
     try:
-        program = find_program(options.bidi)
-        chart = Chart(play(program, read_record(options.record), options.record))
+        record = read_record(options.record)
+        if TALK.match(record):
+            chart = Conversation(talk(record, name))
+        else:
+            chart = Play(play(find_program(options.bidi), record, name))
     except Fault as fault:
         print(f"look: {fault}", file=sys.stderr)
         return 2
-    name = "standard input" if options.record == "-" else os.path.basename(options.record)
-    sys.stdout.buffer.write(page(chart, name).encode())
+    sys.stdout.buffer.write(page(chart, os.path.basename(name)).encode())
     return 0
 
 
