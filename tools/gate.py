@@ -26,6 +26,7 @@ TEXTS = [
     ("texts", "tools/profile.py"),
     ("texts", "tools/picture.py --check"),
     ("texts", "tools/look_test.py"),
+    ("texts", "tools/rows_of_log_test.py"),
 ]
 PROGRAM = [
     ("refused allocations", "tools/refusals.py --short"),
