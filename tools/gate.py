@@ -27,6 +27,7 @@ TEXTS = [
     ("texts", "tools/picture.py --check"),
     ("texts", "tools/look_test.py"),
     ("texts", "tools/rows_of_log_test.py"),
+    ("texts", "tools/release_test.py"),
 ]
 PROGRAM = [
     ("refused allocations", "tools/refusals.py --short"),
