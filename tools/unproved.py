@@ -6,6 +6,8 @@
 `rt try` builds a program, with its checks at run time, only to run it once. This script has it run `bidi host`, copies the
 program while it runs, and ends it. The copy is a program of its own. Nothing about it is proved: use it to try things, and to run
 the test suite of a client.
+
+N limits the processor time of the build, so a busy machine does not end it. `rt try` keeps nothing, so each build starts anew.
 """
 import argparse
 import contextlib
@@ -31,6 +33,13 @@ LAUNCH = """\
 echo 'bidi-unproved: this program is not proved, and is for trying things only' >&2
 exec "$(dirname "$(readlink -f "$0")")/bidi-unproved.program" "$@"
 """
+
+# What a build takes, rounded up: the memory of all its processes at once.
+NEEDED_SECONDS, NEEDED_GB = 240, 7
+LONGEST = 999999  # the most seconds of a build, and those that `rt try` gives the program
+STEP = 20  # seconds of a processor between two lines of progress
+IDLE = 300  # seconds without processor time after which a build has stopped
+TICKS, PAGE = os.sysconf("SC_CLK_TCK"), os.sysconf("SC_PAGE_SIZE")
 
 NEXT = """\
 {launcher} is built ({version}). It is not proved.
@@ -95,21 +104,58 @@ def end_below(folder):
                 os.kill(pid, signal.SIGKILL)
 
 
+def used_by(root):
+    """Returns the seconds of a processor and the bytes of memory that a process and those below it use."""
+    stats, below = {}, {root}
+    for it in pathlib.Path("/proc").glob("[0-9]*"):
+        with contextlib.suppress(OSError):
+            # The fields after the name, from the third on; proc(5).
+            stats[int(it.name)] = (it / "stat").read_bytes().rpartition(b")")[2].split()
+    while found := {pid for pid, fields in stats.items() if int(fields[1]) in below} - below:
+        below |= found
+    every = [stats[pid] for pid in below & set(stats)]
+    return sum(int(it) for fields in every for it in fields[11:15]) / TICKS, sum(int(fields[21]) for fields in every) * PAGE
+
+
+class Usage:
+    """What a build has used, with a line of progress from time to time."""
+
+    def __init__(self, root, seconds):
+        self.root, self.most, self.seconds, self.memory, self.shown, self.grew = root, seconds, 0.0, 0, 0.0, time.monotonic()
+
+    def look(self):
+        """Looks again; fails if the build has used too much or has stopped."""
+        seconds, memory = used_by(self.root)
+        if seconds > self.seconds:
+            self.seconds, self.grew = seconds, time.monotonic()
+        self.memory = max(self.memory, memory)
+        if self.seconds > self.most:
+            raise Failed(f"the build took more than {self.most} seconds of a processor; give more by --seconds N")
+        if time.monotonic() > self.grew + IDLE:
+            raise Failed(f"the build has used no processor for {IDLE} seconds")
+        if self.seconds >= self.shown + STEP:
+            self.shown = self.seconds
+            print(f"  {self.seconds:.0f} of about {NEEDED_SECONDS} seconds, {self.memory / 1e9:.1f} GB", flush=True)
+
+    def __str__(self):
+        return f"{self.seconds:.0f} seconds of a processor and {self.memory / 1e9:.1f} GB of memory"
+
+
 def wait_until_ready(tried, port, seconds, log):
-    """Waits until the host answers; fails if `rt try` ends before, or after so many seconds."""
-    end = time.monotonic() + seconds
+    """Waits until the host answers; fails if `rt try` ends before, or uses more than so many seconds of a processor."""
+    usage = Usage(tried.pid, seconds)
     while not is_ready(port):
         if tried.poll() is not None:
             raise Failed(f"the build failed; `rt try` said:\n{log.read_text(errors='replace')}")
-        if time.monotonic() > end:
-            raise Failed(f"the program did not run within {seconds} seconds; give more by --seconds N")
-        time.sleep(0.2)
+        usage.look()
+        time.sleep(0.5)
+    print(f"The build took {usage}.", flush=True)
 
 
 @contextlib.contextmanager
-def trying(rt, port, seconds, folder, log):
+def trying(rt, port, folder, log):
     """Runs `bidi host` by `rt try`, which leaves nothing outside the folder, and ends it."""
-    words = [rt, "try", "--seconds", str(seconds), "--", "host", "--port", str(port)]
+    words = [rt, "try", "--seconds", str(LONGEST), "--", "host", "--port", str(port)]
     env = {**os.environ, "TMPDIR": folder}
     with log.open("wb") as out:
         streams = {"stdin": subprocess.DEVNULL, "stdout": out, "stderr": subprocess.STDOUT}
@@ -138,7 +184,7 @@ def build(rt, seconds):
     port = free_port()
     with tempfile.TemporaryDirectory(prefix="bidi-unproved-") as folder:
         log = pathlib.Path(folder, "said")
-        with trying(rt, port, seconds, folder, log) as tried:
+        with trying(rt, port, folder, log) as tried:
             wait_until_ready(tried, port, seconds, log)
             PROGRAM.parent.mkdir(exist_ok=True)
             put(PROGRAM, pathlib.Path(program_below(folder)).read_bytes())
@@ -155,14 +201,14 @@ def version():
 
 def seconds_in(word):
     """Returns the number of seconds that an argument says."""
-    if not word.isascii() or not word.isdigit() or not 1 <= int(word) <= 999999:
-        raise argparse.ArgumentTypeError("a whole number from 1 to 999999 is wanted")
+    if not word.isascii() or not word.isdigit() or not 1 <= int(word) <= LONGEST:
+        raise argparse.ArgumentTypeError(f"a whole number from 1 to {LONGEST} is wanted")
     return int(word)
 
 
 def main():
     parser = argparse.ArgumentParser(description="Builds bidi without its proofs: crates/bidi/out/bidi-unproved.")
-    parser.add_argument("--seconds", type=seconds_in, default=900, help="how long the build may take (900)")
+    parser.add_argument("--seconds", type=seconds_in, default=900, help="how many seconds of a processor the build may take (900)")
     seconds = parser.parse_args().seconds
     for it in (signal.SIGTERM, signal.SIGHUP):
         signal.signal(it, lambda number, _: sys.exit(128 + number))
@@ -170,7 +216,8 @@ def main():
     if not rt:
         raise Failed(f"`rt` is not on the path: it is the command of the Rattle kit, here {KIT}, on x86-64 Linux")
     warn_of_other_kit(rt)
-    print("Building the program without its proofs. This takes a few minutes.", flush=True)
+    print(f"Building the program without its proofs. This takes about {NEEDED_SECONDS} seconds of a processor and {NEEDED_GB} GB of "
+          "memory.", flush=True)
     build(rt, seconds)
     print(NEXT.format(launcher=os.path.relpath(LAUNCHER), version=version()), end="")
 
