@@ -1,5 +1,6 @@
 pub mod StringLemmas
 pub mod NumberLemmas
 pub mod PartLemmas
+pub mod IndexLemmas
 pub mod ReadingLemmas
 pub mod RefusalLemmas

@@ -1,4 +1,5 @@
 pub mod Command
+pub mod Index
 pub mod Matching
 pub mod Rows
 pub mod Reading

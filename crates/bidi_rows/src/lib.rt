@@ -27,6 +27,7 @@
 mod command;
 mod fault;
 mod filling;
+mod index;
 mod looking;
 mod matching;
 mod part;

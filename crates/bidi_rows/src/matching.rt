@@ -6,10 +6,11 @@ ghost use Rattle.json.specs.Find.{as_str};
 ghost use Rattle.bidi_rows.specs.Part.{part_of, parts_of, members_of};
 ghost use Rattle.bidi_rows.specs.Matching.{is_found, are_first, are_properties, is_property, contains, passes, passes_each, passes_all, is_bool, is_text};
 
+use crate::index::{FEW, index_for, property_at};
 use crate::part::Part;
 use json::Value;
 
-/// Whether a part is found in a value. Takes no memory.
+/// Whether a part is found in a value.
 #[cycle(found)]
 pub(crate) fn is_found(part: &Part, value: &Value<'_>) -> bool
     ensures { result ≡ is_found (part_of part.now) (value_view value.now) }
@@ -52,8 +53,12 @@ fn are_first(parts: &Vec<Part>, items: &Vec<Value<'_>>) -> bool
 fn are_properties(parts: &Vec<(String, Part)>, value: &Value<'_>) -> bool
     ensures { result ≡ are_properties (members_of parts.now.items) (value_view value.now) }
 {
-    for part in parts {
-        if !is_property(&part.1, value.get(part.0.as_str())) {
+    let mut index = None;
+    for (i, part) in parts.iter().enumerate() {
+        if i == FEW {
+            index = index_for(*parts.allocator(), value);
+        }
+        if !is_property(&part.1, property_at(&index, value, part.0.as_str())) {
             return false;
         }
     }

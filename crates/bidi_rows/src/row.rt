@@ -70,7 +70,8 @@ pub struct Row {
 impl Row {
     /// Whether the row is for a command: it has the command's method, and its part is found in the command's params.
     ///
-    /// Compares the methods first. Takes no memory.
+    /// Compares the methods first. Takes no memory, unless more than 16 properties are looked for in an object that has more than 16:
+    /// that object gets an index until the call returns. If there is no memory for the index, the call takes longer.
     pub fn matches(&self, command: &Command<'_, '_>) -> bool
         // The answer is that of the definition.
         ensures { result ≡ matches (command_seen command.now) (row_of self.now) }
