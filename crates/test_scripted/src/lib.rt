@@ -2,4 +2,6 @@
 #![tactic(auto)]
 
 #[cfg(test)]
+mod large_rows;
+#[cfg(test)]
 mod scenes;

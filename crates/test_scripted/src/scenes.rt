@@ -69,6 +69,19 @@ answer {"method":"m","params":{"s":{}},"result":{"row":5}} -> ok
 > 1 {"id":1,"method":"m","params":{"n":0,"t":true,"f":1.5}} -> < 1 UNKNOWN
 > 1 {"id":1,"method":"m","params":{"s":{"a":1}}} -> < 1 {"id":1,"result":{"row":5},"type":"success"}
 > 1 {"id":1,"method":"m","params":{"s":"x"}} -> < 1 UNKNOWN
+# an object with many properties has each of them under its name, and the last of two with one name counts
+open 1 /session -> opened 1
+answer {"method":"m","params":{MANY,"z":{"$starts":"x"}},"result":{"row":1}} -> ok
+answer {"method":"m","params":{"l":[{MANY,"q":0,"z":[1]}]},"result":{"row":2}} -> ok
+> 1 {"id":1,"method":"m","params":{"z":"xy",MANY}} -> < 1 {"id":1,"result":{"row":1},"type":"success"}
+> 1 {"id":1,"method":"m","params":{MANY,"y":0,"z":"xy","zz":0}} -> < 1 {"id":1,"result":{"row":1},"type":"success"}
+> 1 {"id":1,"method":"m","params":{"z":"y",MANY,"z":"xy"}} -> < 1 {"id":1,"result":{"row":1},"type":"success"}
+> 1 {"id":1,"method":"m","params":{"z":"xy",MANY,"z":"y"}} -> < 1 UNKNOWN
+> 1 {"id":1,"method":"m","params":{MANY,"y":"xy"}} -> < 1 UNKNOWN
+> 1 {"id":1,"method":"m","params":{MANY,"z":"xy","p":0}} -> < 1 UNKNOWN
+> 1 {"id":1,"method":"m","params":{"z":"xy"}} -> < 1 UNKNOWN
+> 1 {"id":1,"method":"m","params":{"l":[{"z":[1,2],"q":0,MANY}]}} -> < 1 {"id":1,"result":{"row":2},"type":"success"}
+> 1 {"id":1,"method":"m","params":{"l":[{"z":[2,1],"q":0,MANY}]}} -> < 1 UNKNOWN
 # rows that answer session.new and session.end leave the machine alone
 open 1 /session -> opened 1
 answer {"method":"session.new","result":{"sessionId":"s","capabilities":{}},"times":1} -> ok
@@ -228,7 +241,7 @@ emit {"method":"m","params":{},"type":"event"} -> no effect: SHAPE
 release 1 {"result":{}} -> no effect: no command of this number is held"#;
 
 /// What words of the table stand for.
-const WORDS: [(&str, &str); 10] = [
+const WORDS: [(&str, &str); 11] = [
     (
         "NAME",
         "a name has 1 to 255 letters, digits, '.', ':', '-' and '_'",
@@ -266,6 +279,10 @@ const WORDS: [(&str, &str); 10] = [
         r#""times" is not a number from 1 to 9007199254740991"#,
     ),
     ("C1", "00000000-0002-8000-8000-000000000001"),
+    (
+        "MANY",
+        r#""a":1,"b":1,"c":1,"d":1,"e":1,"f":1,"g":1,"h":1,"i":1,"j":1,"k":1,"l":1,"m":1,"n":1,"o":1,"p":1"#,
+    ),
 ];
 
 #[test]
@@ -309,7 +326,7 @@ fn spelled_out(alloc: Global, row: &str) -> Result<String, AllocError> {
 }
 
 /// What comes of a line.
-fn found_by(alloc: Global, end: &mut ScriptedEnd, line: &str) -> Result<String, Fail> {
+pub(crate) fn found_by(alloc: Global, end: &mut ScriptedEnd, line: &str) -> Result<String, Fail> {
     let (word, rest) = line.split_once(' ').ok_or("a word")?;
     match word {
         "answer" => done(alloc, end.answer(rest)),
