@@ -5,7 +5,7 @@ use Rattle.httparse.specs.Grammar.{RequestHead}
 use Rattle.httparse.specs.Spans.{IsRequestAt, span_bytes}
 use Rattle.httparse.specs.declared.spans.HeaderSpan.{HeaderSpan}
 use Rattle.httparse.specs.declared.spans.RequestSpans.{RequestSpans}
-use Rattle.bidi_requests.specs.Bodies.{AreDigits, HasChunkedBody, IsChunkedAs, most_body}
+use Rattle.bidi_requests.specs.Bodies.{AreDigits, HasChunkedBody, IsChunkedAs, most_body, most_framed}
 use Rattle.bidi_requests.specs.Requests.{AcceptsKey, AsksUpgrade, BeginsWith, HasBody, HasVersion, IsAskedBy, IsCall, IsChunked, IsFramedBy, IsFromHere, IsGet, IsMethod, IsOfKind, IsPlain, IsRefusedBody, IsRefusedBy, IsSized, IsSizedBy, LacksUpgrade, Request, behind_head, codings, lengths, longest_head, request_of, spanned_request}
 use Rattle.bidi_requests.specs.Targets.{resource_of}
 use Rattle.bidi_requests.specs.declared.answering.Answer.{Answer}
@@ -117,9 +117,9 @@ module _ (bytes : List ℕ) (spans : List HeaderSpan) (r : RequestSpans) (h : Re
       inl (subst (λ q. IsSized q n) spanned-head framed, subst (λ x. n ≤ length x) (behind-same t there) fits, is ∙ ap (take n) (behind-same t there))
 
   -- a body in chunks
-  pub chunked-has : (t content : List ℕ) (n : ℕ) → t ≡ drop r.len bytes → IsChunked (spanned_request bytes spans r) → n ≤ length t → HasChunkedBody t content (drop n t) → HasBody bytes h content n
-  chunked-has t content n there framed fits has =
-      inr (subst IsChunked spanned-head framed, subst (λ x. n ≤ length x) (behind-same t there) fits, subst (λ x. HasChunkedBody x content (drop n x)) (behind-same t there) has)
+  pub chunked-has : (t content : List ℕ) (n : ℕ) → t ≡ drop r.len bytes → IsChunked (spanned_request bytes spans r) → n ≤ length t → n ≤ most_framed → HasChunkedBody t content (drop n t) → HasBody bytes h content n
+  chunked-has t content n there framed fits few has =
+      inr (subst IsChunked spanned-head framed, subst (λ x. n ≤ length x) (behind-same t there) fits, few, subst (λ x. HasChunkedBody x content (drop n x)) (behind-same t there) has)
 
   -- a call with its body
   pub called-asked : r.len ≤ longest_head → IsCall (spanned_request bytes spans r) → (call : Call) (content : List ℕ) (count : ℕ) → IsMethod (span_bytes bytes r.method) call.method

@@ -3,7 +3,7 @@ use Rattle.std.specs.Prelude.{◌≡◌, ◌<◌, ◌≤◌, ◌+◌, ◌⊎◌,
 use Rattle.std.specs.Char.{is_ascii_digit}
 use Rattle.httparse.specs.Grammar.{ChunkLine, Field, LineEnd, ReadsChunkLine, ReadsSection, chunk_size, crlf, print_end}
 use Rattle.httparse.specs.Spans.{SectionExceeds}
-use Rattle.bidi_requests.specs.declared.answering.Answer.{Answer}
+use Rattle.bidi_requests.specs.Extensions.{AreExtensions, behind_size}
 use Rattle.bidi_requests.specs.declared.answering.Answer.TheVariants as answer
 use Rattle.bidi_requests.specs.declared.chunks.Chunked.{Chunked}
 use Rattle.bidi_requests.specs.declared.chunks.Chunked.TheVariants as chunked
@@ -26,10 +26,14 @@ most_trailers = 124
 abbrev pub AreDigits : List ℕ → Type 0
 AreDigits bytes = (0 < length bytes) × All (λ b. IsTrue (is_ascii_digit b)) bytes
 
+-- The bytes begin with the line of a chunk, which has extensions or none behind its size; then come the bytes behind it.
+abbrev pub ReadsLine : List ℕ → ChunkLine → List ℕ → Type 0
+ReadsLine bytes line behind = ReadsChunkLine bytes line behind × AreExtensions (behind_size line)
+
 -- The bytes begin with a chunk of this data, of at least one byte; then come the bytes behind it.
 pub record HasChunk (bytes content behind : List ℕ) : Type 0 where
   pub line : ChunkLine
-  pub reads : ReadsChunkLine bytes line (content ++ (print_end crlf ++ behind))
+  pub reads : ReadsLine bytes line (content ++ (print_end crlf ++ behind))
   pub size : chunk_size line ≡ length content
   pub some : 0 < length content
 
@@ -40,7 +44,7 @@ HasChunks bytes (first ∷ others) behind = (rest : List ℕ) × HasChunk bytes 
 
 -- The bytes begin with the last chunk, whose size is 0, and these bytes follow it.
 abbrev pub HasLastChunk : List ℕ → List ℕ → Type 0
-HasLastChunk bytes behind = (line : ChunkLine) × ReadsChunkLine bytes line behind × (chunk_size line ≡ 0)
+HasLastChunk bytes behind = (line : ChunkLine) × ReadsLine bytes line behind × (chunk_size line ≡ 0)
 
 -- The bytes begin with the last chunk, a trailer section and its empty line; then come the bytes behind it.
 abbrev pub HasEnd : List ℕ → List ℕ → Type 0
@@ -68,22 +72,37 @@ HasManyTrailers bytes = (trailers : List ℕ) × HasLastChunk bytes trailers × 
 
 -- The next chunk has more bytes than there is room for.
 abbrev pub HasLargeChunk : List ℕ → ℕ → Type 0
-HasLargeChunk bytes room = (line : ChunkLine) × (behind : List ℕ) × ReadsChunkLine bytes line behind × (room < chunk_size line)
+HasLargeChunk bytes room = (line : ChunkLine) × (behind : List ℕ) × ReadsLine bytes line behind × (room < chunk_size line)
 
--- What the bytes after a head are, as a body in chunks.
-abbrev pub IsChunkedAs : List ℕ → Chunked → Type 0
+-- What some bytes are, as a body in chunks.
+abbrev pub IsReadAs : List ℕ → Chunked → Type 0
 -- the beginning of one
-IsChunkedAs bytes chunked.Part = HasNoChunkedBody bytes × (length bytes ≤ most_framed)
+IsReadAs bytes chunked.Part = HasNoChunkedBody bytes
 -- a whole one, with so many bytes
-IsChunkedAs bytes (chunked.Whole body n) = HasChunkedBody bytes body.items (drop n bytes) × (n ≤ length bytes) × (length body.items ≤ most_body)
+IsReadAs bytes (chunked.Whole body n) = HasChunkedBody bytes body.items (drop n bytes) × (n ≤ length bytes) × (length body.items ≤ most_body)
 -- none, or one whose last chunk is followed by too many fields
-IsChunkedAs bytes (chunked.Refused answer.BadBody) =
+IsReadAs bytes (chunked.Refused answer.BadBody) =
     NeverHasChunkedBody bytes ⊎ ((chunks : List (List ℕ)) × (left : List ℕ) × HasChunks bytes chunks left × HasManyTrailers left)
--- one that is too long: its next chunk takes it past the most bytes, or its chunks take too many
+-- one whose next chunk takes it past the most bytes
+IsReadAs bytes (chunked.Refused answer.TooLong) =
+    (chunks : List (List ℕ)) × (left : List ℕ) × HasChunks bytes chunks left × ((room : ℕ) × (room + length (flat_map (λ c. c) chunks) ≡ most_body) × HasLargeChunk left room)
+IsReadAs bytes (chunked.Refused a) = ⊥
+
+-- the bytes that decide what a body in chunks is: as many as it may have with its chunks
+abbrev pub deciding : List ℕ → List ℕ
+deciding bytes = take most_framed bytes
+
+-- What the bytes after a head are, as a body in chunks. It has at most 524,288 bytes with its chunks and its trailers, and the bytes behind those decide nothing.
+abbrev pub IsChunkedAs : List ℕ → Chunked → Type 0
+-- the beginning of one, which may have more bytes
+IsChunkedAs bytes chunked.Part = IsReadAs bytes chunked.Part × (length bytes < most_framed)
+-- a whole one, with so many bytes
+IsChunkedAs bytes (chunked.Whole body n) = IsReadAs bytes (chunked.Whole body n) × (n ≤ most_framed)
+-- one that is too long: by its next chunk, or since none ends within the most bytes
 IsChunkedAs bytes (chunked.Refused answer.TooLong) =
-    ((chunks : List (List ℕ)) × (left : List ℕ) × HasChunks bytes chunks left × ((room : ℕ) × (room + length (flat_map (λ c. c) chunks) ≡ most_body) × HasLargeChunk left room))
-    ⊎ (most_framed < length bytes)
-IsChunkedAs bytes (chunked.Refused a) = ⊥
+    IsReadAs (deciding bytes) (chunked.Refused answer.TooLong) ⊎ ((most_framed ≤ length bytes) × HasNoChunkedBody (deciding bytes))
+-- one that is refused for anything else
+IsChunkedAs bytes (chunked.Refused a) = IsReadAs (deciding bytes) (chunked.Refused a)
 
 -- What is at the front of some bytes in a body in chunks, if there may be so many more.
 abbrev pub IsStep : List ℕ → ℕ → Step → Type 0

@@ -9,7 +9,7 @@ use Rattle.httparse.specs.declared.spans.RequestSpans.{RequestSpans}
 use Rattle.httparse.specs.Spans.{RequestExceeds, name_and_value, span_bytes}
 use Rattle.websocket.specs.Handshake.{IsValidKey, accept_key_of}
 use Rattle.websocket.specs.Headers.{Fields, eq_ignore_case, fields_of, header_value}
-use Rattle.bidi_requests.specs.Bodies.{AreDigits, HasChunkedBody, IsChunkedAs, most_body}
+use Rattle.bidi_requests.specs.Bodies.{AreDigits, HasChunkedBody, IsChunkedAs, most_body, most_framed}
 use Rattle.bidi_requests.specs.Origins.{IsLocal}
 use Rattle.bidi_requests.specs.Targets.{IsSocketResource, resource_of}
 use Rattle.bidi_requests.specs.declared.answering.Answer.{Answer}
@@ -219,7 +219,7 @@ HasPart bytes h least =
 abbrev pub HasBody : List ℕ → RequestHead → List ℕ → ℕ → Type 0
 HasBody bytes h body n =
     (IsSized (request_of h) n × (n ≤ length (behind_head bytes h)) × (body ≡ take n (behind_head bytes h)))
-    ⊎ (IsChunked (request_of h) × (n ≤ length (behind_head bytes h)) × HasChunkedBody (behind_head bytes h) body (drop n (behind_head bytes h)))
+    ⊎ (IsChunked (request_of h) × (n ≤ length (behind_head bytes h)) × (n ≤ most_framed) × HasChunkedBody (behind_head bytes h) body (drop n (behind_head bytes h)))
 
 -- The parts of a call are those of a request with this body.
 pub record IsCallOf (call : Call) (r : Request) (content : List ℕ) : Type 0 where

@@ -2,16 +2,18 @@
 ghost use Rattle.std.specs.Prelude.{◌≡◌, ◌≤◌, ◌<◌, ◌+◌, ◌↔◌, ℕ, IfOk, IsTrue, drop, length, take};
 ghost use Rattle.httparse.specs.Grammar.{ChunkLine, crlf, print_end};
 ghost use Rattle.httparse.specs.Spans.{IsChunkLineAt};
-ghost use Rattle.bidi_requests.specs.Bodies.{IsChunkedAs, IsStep, most_body};
+ghost use Rattle.bidi_requests.specs.Bodies.{IsChunkedAs, IsReadAs, IsStep, most_body};
+ghost use Rattle.bidi_requests.specs.Extensions.{AreExtensions, behind_size};
 
 use super::answering::Answer;
 use super::calling::MOST_BODY;
+use super::extensions::is_extended;
 use super::fields::MOST_FIELDS;
 use httparse::spans::{EMPTY_HEADER_SPAN, parse_headers};
 use httparse::{Status, parse_chunk_size};
 use std::alloc::{AllocError, Global};
 
-/// The most bytes of a body with what frames its chunks: enough for chunks of one byte.
+/// The most bytes of a body with what frames its chunks, trailers included: enough for chunks of one byte.
 const MOST_FRAMED: usize = 512 * 1024;
 
 /// What the bytes after a head are, as a body in chunks.
@@ -38,17 +40,30 @@ enum Step {
     Refused(Answer),
 }
 
-/// Reads a body in chunks, which begins with these bytes.
+/// Reads a body in chunks, which begins with these bytes. The bytes behind the most that it may have are not looked at, so
+/// the result does not depend on how many of them are there.
 pub(crate) fn read_chunked(alloc: Global, bytes: &[u8]) -> Result<Chunked, AllocError>
     ensures { IfOk result (IsChunkedAs bytes.now) }
+{
+    let (framed, _) = bytes.split_at(MOST_FRAMED.min(bytes.len()));
+    match read_all(alloc, framed)? {
+        Chunked::Part if bytes.len() < MOST_FRAMED => Ok(Chunked::Part),
+        Chunked::Part => Ok(Chunked::Refused(Answer::TooLong)),
+        Chunked::Whole { body, length } => Ok(Chunked::Whole { body, length }),
+        Chunked::Refused(answer) => Ok(Chunked::Refused(answer)),
+    }
+}
+
+// Reads a body in chunks in these bytes.
+fn read_all(alloc: Global, bytes: &[u8]) -> Result<Chunked, AllocError>
+    ensures { IfOk result (IsReadAs bytes.now) }
 {
     let mut body: Vec<u8> = Vec::new(alloc);
     let mut at: usize = 0;
     for _ in 0..=MOST_BODY {
         let (_, rest) = bytes.split_at(at);
         match step_at(rest, MOST_BODY - body.len()) {
-            Step::Part if bytes.len() <= MOST_FRAMED => return Ok(Chunked::Part),
-            Step::Part => return Ok(Chunked::Refused(Answer::TooLong)),
+            Step::Part => return Ok(Chunked::Part),
             Step::Chunk { start, size } => {
                 let (_, data) = rest.split_at(start);
                 let (data, _) = data.split_at(size);
@@ -74,17 +89,47 @@ fn step_at(bytes: &[u8], room: usize) -> Step
     ensures { IsStep bytes.now room result }
 {
     match parse_chunk_size(bytes) {
-        Ok(Status::Complete((start, 0))) => last_at(bytes, start),
-        Ok(Status::Complete((_, size))) if size > room as u64 => Step::Refused(Answer::TooLong),
-        Ok(Status::Complete((start, size))) => chunk_at(bytes, start, size as usize),
+        Ok(Status::Complete((start, size))) => {
+            if is_extended_at(bytes, start, size) {
+                sized_at(bytes, start, size, room)
+            } else {
+                Step::Refused(Answer::BadBody)
+            }
+        }
         Ok(Status::Partial) => Step::Part,
         Err(_) => Step::Refused(Answer::BadBody),
     }
 }
 
+// Whether the line of a chunk, which ends here, has extensions or none behind its size.
+fn is_extended_at(bytes: &[u8], start: usize, size: u64) -> bool
+    requires line { (l : ChunkLine) × IsChunkLineAt bytes.now start size l }
+    ensures { (l : ChunkLine) → IsChunkLineAt bytes.now start size l → IsTrue result ↔ AreExtensions (behind_size l) }
+{
+    let _ = size;
+    let (line, _) = bytes.split_at(start - 2);
+    is_extended(line)
+}
+
+// What the line of a chunk begins, which ends here and gives this size, if a body may have so many more bytes.
+fn sized_at(bytes: &[u8], start: usize, size: u64, room: usize) -> Step
+    requires line { (l : ChunkLine) × IsChunkLineAt bytes.now start size l × AreExtensions (behind_size l) }
+    requires inside { start ≤ length bytes.now }
+    requires few { room ≤ most_body }
+    ensures { IsStep bytes.now room result }
+{
+    if size == 0 {
+        last_at(bytes, start)
+    } else if size > room as u64 {
+        Step::Refused(Answer::TooLong)
+    } else {
+        chunk_at(bytes, start, size as usize)
+    }
+}
+
 // The chunk whose data begins here and has this size.
 fn chunk_at(bytes: &[u8], start: usize, size: usize) -> Step
-    requires line { (l : ChunkLine) × IsChunkLineAt bytes.now start size l }
+    requires line { (l : ChunkLine) × IsChunkLineAt bytes.now start size l × AreExtensions (behind_size l) }
     requires inside { start ≤ length bytes.now }
     requires some { 0 < size }
     requires short { size ≤ most_body }
@@ -113,7 +158,7 @@ fn is_ended(bytes: &[u8], size: usize) -> bool
 
 // The end of a body, after the line of its last chunk.
 fn last_at(bytes: &[u8], start: usize) -> Step
-    requires line { (l : ChunkLine) × IsChunkLineAt bytes.now start 0 l }
+    requires line { (l : ChunkLine) × IsChunkLineAt bytes.now start 0 l × AreExtensions (behind_size l) }
     requires inside { start ≤ length bytes.now }
     ensures { (room : ℕ) → IsStep bytes.now room result }
 {

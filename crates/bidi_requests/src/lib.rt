@@ -19,6 +19,7 @@ mod answering;
 mod asking;
 mod calling;
 mod chunks;
+mod extensions;
 mod fields;
 mod origins;
 mod targets;

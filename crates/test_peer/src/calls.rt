@@ -121,6 +121,83 @@ fn a_body_comes_in_chunks(rt: HostRuntime) -> Result<(), Fail> {
     check_rows::<Calls>(rt.alloc(), CHUNKS)
 }
 
+/// The bytes behind the head of a call whose body comes in chunks.
+struct Chunks;
+
+impl Asked for Chunks {
+    fn found(alloc: Global, word: &str, text: &str) -> Result<String, Fail> {
+        let text = format!(in alloc; "POST /a HTTP/1.1~Transfer-Encoding: chunked~~{text}")?;
+        Calls::found(alloc, word, text.as_str())
+    }
+}
+
+const EXTENSIONS: &str = r##"
+no value | whole,ones 2;a~{}~0~~ -> Post /a [{}], HTTP/1.1 200 OK
+a token | whole,ones 2;a=b~{}~0;c=1~~ -> Post /a [{}], HTTP/1.1 200 OK
+every sign of a token | whole 2;!#$%&'*+-.^_`|09azAZ=!#$%&'*+-.^_`|09azAZ~{}~0~~ -> Post /a [{}], HTTP/1.1 200 OK
+a quoted string | whole,ones 2;a="b c"~{}~0~~ -> Post /a [{}], HTTP/1.1 200 OK
+an empty string | whole 2;a=""~{}~0~~ -> Post /a [{}], HTTP/1.1 200 OK
+other signs in a string | whole 2;a=";=,/[]é"~{}~0~~ -> Post /a [{}], HTTP/1.1 200 OK
+quoted pairs | whole,ones 2;a="\"\\\b\ \é"~{}~0~~ -> Post /a [{}], HTTP/1.1 200 OK
+several | whole,ones 2;a;b=c;d="e;f";g~{}~0~~ -> Post /a [{}], HTTP/1.1 200 OK
+spaces | whole,ones 2 ; a = b ;c= "d" ; e~{}~0~~ -> Post /a [{}], HTTP/1.1 200 OK
+of the last chunk | whole,ones 2~{}~0;a="b" ; c~~ -> Post /a [{}], HTTP/1.1 200 OK
+no name | whole,ones 2;~{}~0~~ -> ends, HTTP/1.1 400 Bad Request
+no name | whole 2; ~{}~0~~ -> ends, HTTP/1.1 400 Bad Request
+no name | whole 2;=b~{}~0~~ -> ends, HTTP/1.1 400 Bad Request
+no second name | whole 2;a;~{}~0~~ -> ends, HTTP/1.1 400 Bad Request
+no second name | whole 2;a;;b~{}~0~~ -> ends, HTTP/1.1 400 Bad Request
+no name in the last chunk | whole,ones 2~{}~0;~~ -> ends, HTTP/1.1 400 Bad Request
+no value | whole 2;a=~{}~0~~ -> ends, HTTP/1.1 400 Bad Request
+no value | whole 2;a=;b~{}~0~~ -> ends, HTTP/1.1 400 Bad Request
+two values | whole 2;a=b=c~{}~0~~ -> ends, HTTP/1.1 400 Bad Request
+an unfinished string | whole,ones 2;a="x~{}~0~~ -> ends, HTTP/1.1 400 Bad Request
+an unfinished string | whole 2;a="x\"~{}~0~~ -> ends, HTTP/1.1 400 Bad Request
+an unfinished pair | whole 2;a="x\~{}~0~~ -> ends, HTTP/1.1 400 Bad Request
+more after a string | whole 2;a="x"y~{}~0~~ -> ends, HTTP/1.1 400 Bad Request
+a string as name | whole 2;"a"~{}~0~~ -> ends, HTTP/1.1 400 Bad Request
+no token as name | whole 2;a/b~{}~0~~ -> ends, HTTP/1.1 400 Bad Request
+no token as value | whole 2;a=b/c~{}~0~~ -> ends, HTTP/1.1 400 Bad Request
+a space in a name | whole 2;a b~{}~0~~ -> ends, HTTP/1.1 400 Bad Request
+a space in a value | whole 2;a=b c~{}~0~~ -> ends, HTTP/1.1 400 Bad Request
+a space in front of the line end | whole 2 ~{}~0~~ -> ends, HTTP/1.1 400 Bad Request
+a space in front of the line end | whole 2;a=b ~{}~0~~ -> ends, HTTP/1.1 400 Bad Request
+no size fits | whole 10001;~ -> ends, HTTP/1.1 400 Bad Request
+the line is not whole | whole,ones 2;a="x -> waits, nothing
+the line is not whole | whole,ones 2; -> waits, nothing
+"##;
+
+const CONTROLS: &str = "
+tabs | whole,ones 2\t;\ta\t=\tb~{}~0~~ -> Post /a [{}], HTTP/1.1 200 OK
+a tab in a string | whole 2;a=\"\t\\\t\"~{}~0~~ -> Post /a [{}], HTTP/1.1 200 OK
+a control in a string | whole 2;a=\"\x7f\"~{}~0~~ -> ends, HTTP/1.1 400 Bad Request
+a control in a string | whole 2;a=\"\x01\"~{}~0~~ -> ends, HTTP/1.1 400 Bad Request
+a control in a pair | whole 2;a=\"\\\x7f\"~{}~0~~ -> ends, HTTP/1.1 400 Bad Request
+a control in a name | whole 2;a\x01~{}~0~~ -> ends, HTTP/1.1 400 Bad Request
+";
+
+#[test]
+fn a_chunk_has_extensions(rt: HostRuntime) -> Result<(), Fail> {
+    check_rows::<Chunks>(rt.alloc(), EXTENSIONS)?;
+    check_rows::<Chunks>(rt.alloc(), CONTROLS)
+}
+
+/// Bodies of 524,288 bytes with their chunks, and of one byte more.
+const FRAMED: &str = "
+by an extension | whole,by524287 1;«524276 a»~x~0~~ -> Post /a [x], HTTP/1.1 200 OK
+by an extension, one longer | whole,by524287 1;«524277 a»~x~0~~ -> ends, HTTP/1.1 413 Content Too Large
+by trailers | whole 1~x~0~A: «524272 a»~~ -> Post /a [x], HTTP/1.1 200 OK
+by trailers, one longer | whole 1~x~0~A: «524273 a»~~ -> ends, HTTP/1.1 413 Content Too Large
+much longer | whole,by530000 1;«599988 a»~x~0~~ -> ends, HTTP/1.1 413 Content Too Large
+a fault behind the most bytes | whole,by524287 1;«524281 a»~x~z~ -> ends, HTTP/1.1 413 Content Too Large
+a call behind it | whole 1;«524276 a»~x~0~~DELETE /b HTTP/1.1~~ -> Post /a [x], HTTP/1.1 200 OK
+";
+
+#[test]
+fn a_body_has_so_many_bytes_with_its_chunks(rt: HostRuntime) -> Result<(), Fail> {
+    check_rows::<Chunks>(rt.alloc(), FRAMED)
+}
+
 /// The reply with a status, and its bytes.
 fn reply_of(alloc: Global, status: ReplyStatus) -> Result<String, Fail> {
     let mut pieces = Vec::new(alloc);

@@ -14,7 +14,8 @@ pub struct Script {
 }
 
 impl Script {
-    /// A script of these bytes, with `.` between its pieces. In single bytes where a word says so.
+    /// A script of these bytes, with `.` between its pieces. In single bytes for the option `ones`, and in pieces of so many
+    /// bytes for an option such as `by7`.
     pub fn new(alloc: Global, word: &str, pieces: Vec<Vec<u8>>) -> Result<Script, Fail> {
         let mut bytes = Vec::new(alloc);
         let mut lengths = Vec::new(alloc);
@@ -25,6 +26,11 @@ impl Script {
         if has(word, "ones") {
             lengths.clear();
             lengths.resize(bytes.len(), 1)?;
+        }
+        if let Some(size) = number_of(word, "by")? {
+            lengths.clear();
+            lengths.resize(bytes.len() / size.max(1), size)?;
+            lengths.push(bytes.len() % size.max(1))?;
         }
         lengths.reverse();
         Ok(Script {

@@ -11,7 +11,7 @@ returns-then-rest-size c =
 pub returns-then-is_ended : goal.returns-then-is_ended
 returns-then-is_ended c =
     λ room fits. (
-      data-whole c.args.bytes.now c.args.start c.args.size c.requires.line.0 c.requires.line.1 c.requires.some
+      data-whole c.args.bytes.now c.args.start c.args.size c.requires.line.0 c.requires.line.1 c.requires.line.2 c.requires.some
           (omega (arith, c.if-rest-size.false, ap length c.split_at.ensures.back)) (search rules),
       omega (arith, c.if-rest-size.false, ap length c.split_at.ensures.back, length-drop c.args.start c.args.bytes.now, c.requires.inside),
       c.requires.some,

@@ -7,4 +7,4 @@ returns-in-Ok-Partial c = λ room. end-part c.args.bytes.now c.args.start c.requ
 
 pub returns-in-Err : goal.returns-in-Err
 returns-in-Err c =
-    λ room. end-refused c.args.bytes.now c.args.start c.requires.line.0 c.requires.line.1 c.in-Err.field-0 (λ other. search rules) (λ same. search rules)
+    λ room. end-refused c.args.bytes.now c.args.start c.requires.line.0 c.requires.line.1 c.requires.line.2 c.in-Err.field-0 (λ other. search rules) (λ same. search rules)

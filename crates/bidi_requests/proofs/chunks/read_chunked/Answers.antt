@@ -1,31 +1,27 @@
-use Rattle.std.proofs.Common.{rules, ap, arith, drop, length, length-append, length-drop, subst}
-use Rattle.bidi_requests.specs.Bodies.{HasNoChunkedBody}
-use Rattle.bidi_requests.proofs.BodyLemmas.{no-body-behind, one-more, refused-behind}
+use Rattle.std.proofs.Common.{◌≡◌, ◌∙◌, ap, subst, take}
+use Rattle.std.proofs.lemmas.List.{take_min}
+use Rattle.bidi_requests.specs.Bodies.{IsReadAs, deciding, most_framed}
+use Rattle.bidi_requests.proofs.BodyLemmas.{long-first, part-first, refused-first, whole-first}
 use Rattle.bidi_requests.proofs.chunks.read_chunked.Goals as goal
 
 pub returns-in-Part : goal.returns-in-Part
 returns-in-Part c =
-    let i = c.loop.invariant in (
-      no-body-behind c.args.bytes.now (drop c.loop.at c.args.bytes.now) i.chunks.0 i.chunks.1 (subst HasNoChunkedBody c.split_at.ensures.back c.in-Part.ensures),
-      c.if-bytes-le-MOST_FRAMED.true,
-    )
+    let first : c.split_at.result.0.now ≡ deciding c.args.bytes.now = c.split_at.ensures.front ∙ ap (λ n. take n c.args.bytes.now) c.min.ensures ∙ take_min most_framed c.args.bytes.now in
+    part-first c.args.bytes.now c.split_at.result.0.now first c.if-bytes-lt-MOST_FRAMED.true (subst (IsReadAs c.split_at.result.0.now) c.in-Part.is c.in_ok-read_all.ensures)
+
+pub returns-in-Part-2 : goal.returns-in-Part-2
+returns-in-Part-2 c =
+    let first : c.split_at.result.0.now ≡ deciding c.args.bytes.now = c.split_at.ensures.front ∙ ap (λ n. take n c.args.bytes.now) c.min.ensures ∙ take_min most_framed c.args.bytes.now in
+    long-first c.args.bytes.now c.split_at.result.0.now first c.if-bytes-lt-MOST_FRAMED.false (subst (IsReadAs c.split_at.result.0.now) c.in-Part-2.is c.in_ok-read_all.ensures)
+
+pub returns-in-Whole : goal.returns-in-Whole
+returns-in-Whole c =
+    let first : c.split_at.result.0.now ≡ deciding c.args.bytes.now = c.split_at.ensures.front ∙ ap (λ n. take n c.args.bytes.now) c.min.ensures ∙ take_min most_framed c.args.bytes.now in
+    let read = subst (IsReadAs c.split_at.result.0.now) c.in-Whole.is c.in_ok-read_all.ensures in
+    let whole = whole-first c.args.bytes.now c.split_at.result.0.now first c.in-Whole.body.items c.in-Whole.length read.0 read.1 in
+    ((whole.0, whole.1, read.2), whole.2)
 
 pub returns-in-Refused : goal.returns-in-Refused
 returns-in-Refused c =
-    let i = c.loop.invariant in
-    refused-behind c.args.bytes.now i.chunks.0 c.loop.at i.chunks.1 c.loop.body.items i.chunks.2 c.split_at.result.1.now c.split_at.ensures.back i.short c.len.result (search rules) c.in-Refused.answer c.in-Refused.ensures
-
-pub loop-preserved : goal.loop-preserved
-loop-preserved c =
-    let i = c.loop.invariant in
-    let grows = c.in_ok-extend_from_slice-in-Chunk.ensures.items in
-    let takes = c.split_at-in-Chunk-2.ensures.front in
-    let from = c.split_at-in-Chunk.ensures.back in
-    let chunk = c.in-Chunk.ensures in
-    record {
-      chunks = one-more c.args.bytes.now i.chunks.0 c.loop.at i.chunks.1 c.loop.body.items i.chunks.2 c.split_at.result.1.now c.split_at.ensures.back c.in-Chunk.start c.in-Chunk.size
-          c.split_at-in-Chunk.result.1.now c.split_at-in-Chunk-2.result.0.now c.extend_from_slice.new.self.items chunk.0 from takes grows;
-      inside = omega (arith, i.inside, chunk.1, ap length c.split_at.ensures.back, length-drop c.loop.at c.args.bytes.now);
-      short = omega (arith, i.short, chunk.3, ap length grows, length-append c.loop.body.items c.split_at-in-Chunk-2.result.0.now, c.split_at-in-Chunk-2.ensures.front_len, c.len.ensures);
-      count = omega (arith, i.count, chunk.2, ap length grows, length-append c.loop.body.items c.split_at-in-Chunk-2.result.0.now, c.split_at-in-Chunk-2.ensures.front_len);
-    }
+    let first : c.split_at.result.0.now ≡ deciding c.args.bytes.now = c.split_at.ensures.front ∙ ap (λ n. take n c.args.bytes.now) c.min.ensures ∙ take_min most_framed c.args.bytes.now in
+    refused-first c.args.bytes.now c.split_at.result.0.now first c.in-Refused.answer (subst (IsReadAs c.split_at.result.0.now) c.in-Refused.is c.in_ok-read_all.ensures)

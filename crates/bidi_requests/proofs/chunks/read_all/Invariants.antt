@@ -1,6 +1,6 @@
 use Rattle.std.proofs.Common.{◌≡◌, ◌≤◌, List, ℕ, drop, flat_map, length}
 use Rattle.bidi_requests.specs.Bodies.{HasChunks, most_body}
-use Rattle.bidi_requests.proofs.chunks.read_chunked.Given as goal
+use Rattle.bidi_requests.proofs.chunks.read_all.Given as goal
 
 -- the chunks so far have the body so far, and each has a byte at least
 abbrev pub invariant-loop : goal.invariant-loop
