@@ -1,6 +1,8 @@
 -- The replies to calls. After W3C WebDriver, "Errors" and "New Session", and WebDriver BiDi, "Establishing a connection".
-use Rattle.std.specs.Prelude.{◌≡◌, ◌==◌, ℕ, List, [], ◌∷◌, ◌++◌, bytes_eq, codes, decimal, if◌then◌else◌, Option, Some, None, string_bytes, unwrap_or}
-use Rattle.json.specs.Json.{Json, document, string}
+use Rattle.std.specs.Prelude.{◌≡◌, ℕ, List, [], ◌∷◌, ◌++◌, bytes_eq, codes, decimal, if◌then◌else◌, Option, Some, None, string_bytes, unwrap_or}
+use Rattle.json.specs.Json.{Json, Members, document, member, no_members, object, string}
+use Rattle.json.specs.Token.{Token}
+use Rattle.json.specs.Tree.{json_tokens}
 use Rattle.bidi_requests.specs.declared.answering.ReplyStatus.{ReplyStatus}
 use Rattle.bidi_requests.specs.declared.answering.ReplyStatus.TheVariants as status
 use Rattle.bidi_rows.specs.Reading.{object_at, string_at}
@@ -48,19 +50,28 @@ pub record IsErrorReply (s : ReplyStatus) (code message : List ℕ) (reply : Rep
 abbrev pub session_url : ℕ → List ℕ → List ℕ
 session_url port id = codes "ws://127.0.0.1:" ++ (decimal port ++ (codes "/session/" ++ id))
 
--- the rest of an object's text behind a property that is put in front of the others: a comma comes first if there are others
-abbrev pub behind_first : List ℕ → List ℕ
-behind_first rest = if bytes_eq rest (codes "}") then rest else 44 ∷ rest
+-- the name of the property with the address of a session's WebSocket
+abbrev pub address_name : List ℕ
+address_name = codes "webSocketUrl"
 
--- the text of an object with the property `webSocketUrl` in front of the others; any other text stays as it is
-abbrev pub with_url : List ℕ → List ℕ → List ℕ
-with_url url [] = []
-with_url url (first ∷ rest) = if first == 123 then codes "{\"webSocketUrl\":" ++ (quoted url ++ behind_first rest) else first ∷ rest
+-- the properties without those of a name
+abbrev pub without : List ℕ → Members → Members
+without name no_members = no_members
+without name (member key value others) = if bytes_eq key name then without name others else member key value (without name others)
+
+-- an object with this address in front of its other properties; any address that it has is left out
+abbrev pub with_url : List ℕ → Json → Json
+with_url url (object members) = object (member address_name (string url) (without address_name members))
+with_url url value = value
+
+-- the tokens of a property, unless it is an address
+abbrev pub other_tokens : List ℕ → Json → List Token
+other_tokens name value = if bytes_eq name address_name then [] else Token.key name ∷ json_tokens value
 
 -- the JSON text of a new session with this id and these capabilities
 abbrev pub session_text : ℕ → List ℕ → Json → List ℕ
 session_text port id capabilities =
-    codes "{\"value\":{\"capabilities\":" ++ (with_url (session_url port id) (compact capabilities) ++ (codes ",\"sessionId\":" ++ (quoted id ++ codes "}}")))
+    codes "{\"value\":{\"capabilities\":" ++ (compact (with_url (session_url port id) capabilities) ++ (codes ",\"sessionId\":" ++ (quoted id ++ codes "}}")))
 
 -- The result of `session.new` gives this reply: the id of the session, and its capabilities with the address of its WebSocket.
 abbrev pub IsSessionReply : ℕ → Json → Option Reply → Type 0

@@ -13,6 +13,7 @@
 //! After W3C WebDriver, "Routing requests", "Errors" and "New Session", and WebDriver BiDi, "Establishing a connection".
 #![tactic(auto)]
 
+mod capabilities;
 mod commands;
 mod replies;
 mod routes;

@@ -1,10 +1,11 @@
 //! The replies to calls.
-ghost use Rattle.std.specs.Prelude.{◌≡◌, List, ℕ, IfOk, codes, string_bytes};
+ghost use Rattle.std.specs.Prelude.{◌≡◌, IfOk, codes, string_bytes};
 ghost use Rattle.json.specs.Tree.{HasNumbers};
 ghost use Rattle.json.specs.Value.{value_view};
-ghost use Rattle.bidi_classic.specs.Replies.{IsEndReply, IsErrorReply, IsFailedReply, IsNewReply, IsSessionReply, code_of, failed_status, quoted, status_of, with_url};
+ghost use Rattle.bidi_classic.specs.Replies.{IsEndReply, IsErrorReply, IsFailedReply, IsNewReply, IsSessionReply, code_of, failed_status, quoted, status_of};
 ghost use Rattle.bidi_requests.specs.declared.answering.ReplyStatus.TheVariants.{Done};
 
+use super::capabilities::with_url;
 use bidi_requests::{AllowedMethods, ReplyStatus};
 use bidi_rows::{compact, object_at, string_at};
 use json::{Error, Scratch, Value};
@@ -100,8 +101,8 @@ fn quoted(alloc: Global, text: &str) -> Result<String, AllocError>
 }
 
 /// The reply to a call for a session, from the answer of the remote end to `session.new`: the session id, and the
-/// capabilities with the address of the session's WebSocket on 127.0.0.1 at this port. `None` means that the text is no
-/// answer to that command.
+/// capabilities with the address of the session's WebSocket on 127.0.0.1 at this port, which takes the place of any that they
+/// have. `None` means that the text is no answer to that command.
 ///
 /// # Errors
 /// No memory: an allocation failed.
@@ -132,9 +133,8 @@ fn session_reply(alloc: Global, found: &Value<'_>, port: u16) -> Result<Option<R
         return Ok(None);
     };
     let url = format!(in alloc; "ws://127.0.0.1:{port}/session/{id}")?;
-    let url = quoted(alloc, url.as_str())?;
+    let capabilities = with_url(alloc, capabilities, url.as_str())?;
     let id = quoted(alloc, id)?;
-    let capabilities = with_url(alloc, compact(alloc, capabilities)?.as_str(), url.as_str())?;
     let json = format!(in alloc;
         "{{\"value\":{{\"capabilities\":{capabilities},\"sessionId\":{id}}}}}"
     )?;
@@ -142,17 +142,6 @@ fn session_reply(alloc: Global, found: &Value<'_>, port: u16) -> Result<Option<R
         status: ReplyStatus::Done,
         json,
     }))
-}
-
-// The text of an object with the address of a WebSocket in front of its properties.
-fn with_url(alloc: Global, object: &str, url: &str) -> Result<String, AllocError>
-    ensures { (address : List ℕ) → url.now ≡ quoted address → IfOk result (λ text. string_bytes text ≡ with_url address object.now) }
-{
-    match object.strip_prefix("{") {
-        Some("}") => format!(in alloc; "{{\"webSocketUrl\":{url}}}"),
-        Some(rest) => format!(in alloc; "{{\"webSocketUrl\":{url},{rest}"),
-        None => String::from_str(alloc, object),
-    }
 }
 
 // The reply to a call that failed, from the answer of the remote end.

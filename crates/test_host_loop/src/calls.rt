@@ -150,6 +150,23 @@ page says answer {"method":"session.new","error":"unknown error","message":"no",
 2 calls POST /session HTTP/1.1|Content-Length: 19||{"capabilities":{}}
 2 is told 500 {"value":{"error":"unknown error","message":"no","stacktrace":""}}"#;
 
+const ADDRESSED: &str = r#"page opens /page
+page says answer {"method":"session.new","result":{"sessionId":"a","capabilities":{"webSocketUrl":"ws://x","b":1.50,"webSocketUrl":true}},"times":1}
+page hears ok
+1 calls POST /session HTTP/1.1|Content-Length: 19||{"capabilities":{}}
+1 is told 200 {"value":{"capabilities":{"webSocketUrl":"ws://127.0.0.1:PORT/session/a","b":1.50},"sessionId":"a"}}
+page says answer {"method":"session.new","result":{"sessionId":"a","capabilities":{"webSocket\u0055rl":"ws://x"}},"times":1}
+2 calls POST /session HTTP/1.1|Content-Length: 19||{"capabilities":{}}
+2 is told 200 {"value":{"capabilities":{"webSocketUrl":"ws://127.0.0.1:PORT/session/a"},"sessionId":"a"}}
+page says answer {"method":"session.new","result":{"sessionId":"a","capabilities":{}},"times":1}
+3 calls POST /session HTTP/1.1|Content-Length: 19||{"capabilities":{}}
+3 is told 200 {"value":{"capabilities":{"webSocketUrl":"ws://127.0.0.1:PORT/session/a"},"sessionId":"a"}}"#;
+
+#[test]
+fn a_new_session_has_one_address(rt: HostRuntime) -> Result<(), Fail> {
+    check_scene(&rt, PLAIN, "", ADDRESSED)
+}
+
 #[test]
 fn a_test_answers_the_command_of_a_call(rt: HostRuntime) -> Result<(), Fail> {
     check_scene(&rt, PLAIN, "", HELD)
