@@ -88,10 +88,12 @@ const MANY: &str = r#"«1 to 7 # begins @s#
 69 is told 500 {"value":{"error":"session not created","message":"too many connections","stacktrace":""}}
 70 calls DELETE /session/@s9 HTTP/1.1||
 70 is told 500 {"value":{"error":"unknown error","message":"too many connections","stacktrace":""}}
+71 calls DELETE /session/unknown HTTP/1.1||
+71 is told 500 {"value":{"error":"unknown error","message":"too many connections","stacktrace":""}}
 12 leaves
 record ends drop 12
-71 calls DELETE /session/@s9 HTTP/1.1||
-71 is told 200 {"value":null}
+72 calls DELETE /session/@s9 HTTP/1.1||
+72 is told 200 {"value":null}
 1 is served"#;
 
 #[test]
