@@ -1,6 +1,6 @@
 -- Questions to the tables, answered by the past.
-use Rattle.std.proofs.Common.{◌≡◌, ◌∙◌, ℕ, Bool, true, false, ◌&&◌, List, [], ◌∷◌, map, Option, Some, None, Result, Ok, Err, refl, sym, ap, arith}
-use Rattle.std.specs.Prelude.{◌==◌, filter, find, option_map}
+use Rattle.std.proofs.Common.{◌≡◌, ◌∙◌, ℕ, Bool, true, false, ◌&&◌, List, [], ◌∷◌, map, Option, Some, None, unwrap_or, Result, Ok, Err, refl, sym, ap, arith}
+use Rattle.std.specs.Prelude.{◌==◌, filter, find, if◌then◌else◌, option_map}
 use Rattle.std.proofs.lemmas.Bool.Decides.{nat_tests}
 use Rattle.bidi_params.specs.declared.error_code.ErrorCode.{ErrorCode}
 use Rattle.bidi_params.specs.declared.error_code.ErrorCode.TheVariants.{NoSuchFrame}
@@ -13,12 +13,12 @@ use Rattle.bidi_contexts.specs.Occurrences.{Occurrence, top_at}
 use Rattle.bidi_handles.specs.Checks.{◌>>=◌, found}
 use Rattle.bidi_remote.specs.Machine.History.{Deed, acts}
 use Rattle.bidi_remote.specs.Machine.Sessions.{is_active, sessions, sessions_made}
-use Rattle.bidi_remote.specs.Machine.Subscriptions.{is_enabled, holds_globally}
-use Rattle.bidi_remote.specs.Machine.Asking.{hears, top_named}
+use Rattle.bidi_remote.specs.Machine.Subscriptions.{subscriptions, is_enabled, holds_globally}
+use Rattle.bidi_remote.specs.Machine.Asking.{hears, top_named, subscriptions_in}
 use Rattle.bidi_remote.specs.State.Heard.{heard_by, is_heard_by, first_top}
-use Rattle.bidi_active.specs.SessionRows.{SessionRow}
-use Rattle.bidi_remote.specs.State.SessionRows.{session_row, session_rows, subscription_rows}
-use Rattle.bidi_sessions.specs.SubscriptionRows.{any_covers, any_global}
+use Rattle.bidi_active.specs.SessionRows.{SessionRow, row_in, begun}
+use Rattle.bidi_remote.specs.State.SessionRows.{session_row, session_rows, subscription_rows, row_at}
+use Rattle.bidi_sessions.specs.SubscriptionRows.{SubscriptionRow, any_covers, any_global}
 use Rattle.bidi_remote.proofs.SubscriptionLemmas.{covers-enabled, global-held, find-active}
 
 -- ---- the table of sessions
@@ -49,6 +49,27 @@ pub row-hears : (past : List Deed) (s : ℕ) (e : EventName) (top : Option Top) 
     → o ≡ find (λ r. r.number == s) rows → rows ≡ session_rows past → is_heard_by o e top ≡ hears past s e top
 row-hears past s e top rows o is same =
     ap (λ x. is_heard_by x e top) (is ∙ ap (find (λ r. r.number == s)) same) ∙ found-hears past s e top (is_active past s) refl
+
+-- the numbers of the rows of some subscriptions
+row-numbers : (past : List Deed) (s : ℕ) (ns : List ℕ) → map (λ r. r.number) (map (row_at past s) ns) ≡ ns
+row-numbers past s [] = refl
+row-numbers past s (n ∷ ns) = ap (λ rest. n ∷ rest) (row-numbers past s ns)
+
+found-numbers : (past : List Deed) (s : ℕ) (b : Bool) → is_active past s ≡ b
+    → map (λ r. r.number) (unwrap_or (find (λ r. r.number == s) (session_rows past)) (begun s)).subscriptions ≡ subscriptions_in past s
+found-numbers past s true active =
+    ap (λ o. map (λ r. r.number) (unwrap_or o (begun s)).subscriptions) (find-active past s active)
+    ∙ (row-numbers past s (subscriptions past s) ∙ ap (λ b. if b then subscriptions past s else []) (sym active))
+found-numbers past s false active =
+    ap (λ o. map (λ r. r.number) (unwrap_or o (begun s)).subscriptions)
+    (find-gone (session_row past) (is_active past) s (up_to (sessions_made past)) (λ n. refl) active)
+    ∙ ap (λ b. if b then subscriptions past s else []) (sym active)
+
+-- the subscriptions of a session's row have the numbers of its live ones
+pub held-numbers : (past : List Deed) (s : ℕ) (rows : List SessionRow) (held : List SubscriptionRow)
+    → held ≡ (row_in s rows).subscriptions → rows ≡ session_rows past → map (λ r. r.number) held ≡ subscriptions_in past s
+held-numbers past s rows held is same =
+    ap (map (λ r. r.number)) (is ∙ ap (λ rs. (row_in s rs).subscriptions) same) ∙ found-numbers past s (is_active past s) refl
 
 -- ---- a log entry that is planned
 

@@ -1,23 +1,27 @@
 //! Questions to a remote end, which change nothing.
-ghost use Rattle.std.specs.Prelude.{◌≡◌, ◌++◌, List, map, string_bytes, IfOk};
+ghost use Rattle.std.specs.Prelude.{◌≡◌, ◌++◌, List, map, string_bytes, option_map, IfOk};
 ghost use Rattle.bidi_contexts.specs.View.{seen};
 ghost use Rattle.bidi_remote.specs.Machine.History.{Input, acts};
 ghost use Rattle.bidi_remote.specs.Machine.Connections.{attachment_of, connections_of};
 ghost use Rattle.bidi_remote.specs.Machine.Sessions.{sessions};
-ghost use Rattle.bidi_remote.specs.Machine.Asking.{session_in, top_named, hears};
-ghost use Rattle.bidi_remote.specs.Machine.Outcome.{deeds};
+ghost use Rattle.bidi_remote.specs.Machine.Asking.{session_in, top_named, hears, subscriptions_in};
+ghost use Rattle.bidi_remote.specs.Machine.Outcome.{deeds, scope_asked};
 ghost use Rattle.bidi_remote.specs.Machine.Sent.{Text};
 ghost use Rattle.bidi_remote.specs.State.Heard.{heard_by, first_top};
 ghost use Rattle.bidi_active.specs.SessionView.{session_row_of};
+ghost use Rattle.bidi_remote.specs.State.Asked.{texts};
+ghost use Rattle.bidi_sessions.specs.Checked.{IfChecked};
+ghost use Rattle.bidi_sessions.specs.SubscriptionView.{row_of, scope_of};
 ghost use Rattle.bidi_sessions.specs.View.{sent_of};
 
 use crate::page_steps::told_by;
+use crate::session::scope_of_ids;
 use crate::state::State;
 use bidi_active::Session;
 use bidi_browser::{Action, Occurrence, Plan, Refusal, Top};
 use bidi_messages::EventName;
 use bidi_scripts::Level;
-use bidi_sessions::{Attachment, Sent};
+use bidi_sessions::{Attachment, Scope, Sent, Subscription};
 use bidi_tree::JsUint;
 use std::alloc::{AllocError, Global};
 use std::rc::Rc;
@@ -40,6 +44,30 @@ impl State {
             Attachment::Shut | Attachment::Alone => None,
             Attachment::SpeaksFor(session) => Some(session),
         }
+    }
+
+    /// The numbers of the live subscriptions of a session.
+    pub(crate) fn subscriptions_of(
+        &self,
+        alloc: Global,
+        session: u32,
+    ) -> Result<Vec<u32>, AllocError>
+        ensures { (h : List Input) → AgreeWith self.now (deeds h) → IfOk result (λ all. all.items ≡ subscriptions_in (deeds h) session) }
+    {
+        subscription_numbers(alloc, self.sessions.subscriptions_of(session))
+    }
+
+    /// The scope of a subscription to these contexts or to these user contexts.
+    pub(crate) fn scope_asked(
+        &self,
+        alloc: Global,
+        contexts: Option<&[String]>,
+        users: Option<&[String]>,
+    ) -> Result<Scope, Refusal>
+        ensures { (h : List Input) → AgreeWith self.now (deeds h) → IfChecked result scope_of
+            (scope_asked (acts (deeds h)) (option_map (λ l. texts l.now) contexts.entry) (option_map (λ l. texts l.now) users.entry)) }
+    {
+        scope_of_ids(alloc, &self.browser, contexts, users)
     }
 
     /// Whether a session hears an event there.
@@ -86,6 +114,20 @@ fn numbers_of(alloc: Global, sessions: &[Session]) -> Result<Vec<u32>, AllocErro
     let mut numbers = Vec::new(alloc);
     for session in sessions {
         numbers.push(session.number)?;
+    }
+    Ok(numbers)
+}
+
+// The numbers of some subscriptions.
+fn subscription_numbers(
+    alloc: Global,
+    subscriptions: &[Subscription],
+) -> Result<Vec<u32>, AllocError>
+    ensures { IfOk result (λ all. all.items ≡ map (λ r. r.number) (map row_of subscriptions.now)) }
+{
+    let mut numbers = Vec::new(alloc);
+    for subscription in subscriptions {
+        numbers.push(subscription.number)?;
     }
     Ok(numbers)
 }

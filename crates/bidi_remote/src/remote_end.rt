@@ -1,5 +1,5 @@
 //! The remote end, with its public calls.
-ghost use Rattle.std.specs.Prelude.{◌≡◌, ℕ, ◌<◌, ◌≤◌, ◌↔◌, List, [], ◌∷◌, ◌++◌, map, string_bytes, true, Some, IsTrue, IfOk, OnOk, OnErr, IsOk, IsErrOf, length};
+ghost use Rattle.std.specs.Prelude.{◌≡◌, ℕ, ◌<◌, ◌≤◌, ◌↔◌, List, [], ◌∷◌, ◌++◌, map, option_map, string_bytes, true, Some, IsTrue, IfOk, OnOk, OnErr, IsOk, IsErrOf, length};
 ghost use Rattle.json.specs.Json.{document};
 ghost use Rattle.json.specs.Value.{value_view};
 ghost use Rattle.bidi_sessions.specs.Step as steps;
@@ -9,18 +9,20 @@ ghost use Rattle.bidi_contexts.specs.Actions.{Action};
 ghost use Rattle.bidi_remote.specs.Machine.History.{Input, IsHeardAs, IsTakenAs, acts};
 ghost use Rattle.bidi_remote.specs.Machine.Connections.{is_open, attachment_of, connections_of};
 ghost use Rattle.bidi_remote.specs.Machine.Sessions.{sessions};
-ghost use Rattle.bidi_remote.specs.Machine.Asking.{session_in, top_named, hears};
-ghost use Rattle.bidi_remote.specs.Machine.Outcome.{deeds, page_refusal};
+ghost use Rattle.bidi_remote.specs.Machine.Asking.{session_in, top_named, hears, subscriptions_in};
+ghost use Rattle.bidi_remote.specs.Machine.Outcome.{deeds, page_refusal, scope_asked};
 ghost use Rattle.bidi_remote.specs.Replies.{IsAnsweredOnce};
 ghost use Rattle.bidi_remote.specs.Machine.Sent.{out, Text};
 ghost use Rattle.bidi_remote.specs.Strike as strike;
 ghost use Rattle.bidi_remote.specs.declared.remote_end.RemoteFault.TheVariants.{NoMemory};
+ghost use Rattle.bidi_sessions.specs.Checked.{IfChecked};
 ghost use Rattle.bidi_sessions.specs.Limits.{most_steps};
+ghost use Rattle.bidi_sessions.specs.SubscriptionView.{scope_of};
 
 use crate::state::State;
-use bidi_browser::Top;
+use bidi_browser::{Refusal, Top};
 use bidi_messages::{ErrorCode, EventName};
-use bidi_sessions::{PageStep, Sent, Step};
+use bidi_sessions::{PageStep, Scope, Sent, Step};
 use bidi_tree::JsUint;
 use json::{Scratch, Value};
 use std::alloc::{AllocError, Global};
@@ -291,6 +293,37 @@ impl RemoteEnd {
             return Err(RemoteFault::WornOut);
         }
         Ok(self.state.top_at(context)?)
+    }
+
+    /// The numbers of the live subscriptions of a session, in order; none if the session is not active.
+    ///
+    /// # Errors
+    /// No memory: an allocation failed.
+    pub fn subscriptions_of(&self, session: u32) -> Result<Vec<u32>, AllocError>
+        // After an Ok, they are the live subscriptions of each history that the end stands for.
+        ensures { (h : List Input) → StandsFor self.now h → IfOk result (λ all. all.items ≡ subscriptions_in (deeds h) session) }
+    {
+        self.state.subscriptions_of(self.alloc, session)
+    }
+
+    /// The scope that a subscription to these contexts, or to these user contexts, would have; without both, all contexts.
+    ///
+    /// # Errors
+    /// The first that holds:
+    /// - `invalid argument`: contexts and user contexts are both given.
+    /// - `no such user context`: a user context is not live.
+    /// - `no such frame`: a context is not live.
+    /// - No memory: an allocation failed.
+    pub fn scope_asked(
+        &self,
+        contexts: Option<&[String]>,
+        users: Option<&[String]>,
+    ) -> Result<Scope, Refusal>
+        // The scope, or the error code, is that of the machine for each history that the end stands for.
+        ensures { (h : List Input) → StandsFor self.now h → IfChecked result scope_of (scope_asked (acts (deeds h))
+            (option_map (λ ids. map string_bytes ids.now) contexts.entry) (option_map (λ ids. map string_bytes ids.now) users.entry)) }
+    {
+        self.state.scope_asked(self.alloc, contexts, users)
     }
 
     /// Whether an event is enabled for a session in the tree of this top-level context; without one, whether it is enabled for all

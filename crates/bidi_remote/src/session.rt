@@ -8,5 +8,5 @@ mod unsubscribe;
 pub(crate) use end::decide_end;
 pub(crate) use new::decide_new;
 pub(crate) use status::decide_status;
-pub(crate) use subscribe::decide_subscribe;
+pub(crate) use subscribe::{decide_subscribe, scope_of_ids};
 pub(crate) use unsubscribe::decide_unsubscribe;

@@ -30,6 +30,7 @@ use bidi_browser::{Browser, CommandResult, Refusal};
 use bidi_messages::{ErrorCode, EventName, Method, Payload};
 use bidi_params::SubscribeParameters;
 use bidi_sessions::{Scope, Subscriptions, all_named, subscribe_result};
+use bidi_shape::OneOrMore;
 use std::alloc::{AllocError, Global};
 use std::rc::Rc;
 
@@ -162,10 +163,35 @@ fn scope_asked(
     ensures { (past : List Act) → StandsFor browser.now past → IfChecked result scope_of
         (scope_asked past (option_map (λ l. texts l.items.items) params.now.contexts) (option_map (λ l. texts l.items.items) params.now.user_contexts)) }
 {
-    match (&params.contexts, &params.user_contexts) {
+    let contexts = ids_in(&params.contexts);
+    let users = ids_in(&params.user_contexts);
+    scope_of_ids(alloc, browser, contexts, users)
+}
+
+// The ids that a command lists, if it lists any.
+fn ids_in(ids: &Option<OneOrMore<String>>) -> Option<&[String]>
+    ensures { option_map (λ l. texts l.now) result ≡ option_map (λ l. texts l.items.items) ids.now }
+{
+    match ids {
+        Some(ids) => Some(&ids.items),
+        None => None,
+    }
+}
+
+/// The scope of a subscription to these contexts or to these user contexts.
+pub(crate) fn scope_of_ids(
+    alloc: Global,
+    browser: &Browser,
+    contexts: Option<&[String]>,
+    users: Option<&[String]>,
+) -> Result<Scope, Refusal>
+    ensures { (past : List Act) → StandsFor browser.now past → IfChecked result scope_of
+        (scope_asked past (option_map (λ l. texts l.now) contexts.entry) (option_map (λ l. texts l.now) users.entry)) }
+{
+    match (contexts, users) {
         (None, None) => Ok(Scope::All),
-        (Some(contexts), None) => Ok(Scope::Below(tops_named(alloc, browser, &contexts.items)?)),
-        (None, Some(users)) => Ok(Scope::Within(users_named(alloc, browser, &users.items)?)),
+        (Some(contexts), None) => Ok(Scope::Below(tops_named(alloc, browser, contexts)?)),
+        (None, Some(users)) => Ok(Scope::Within(users_named(alloc, browser, users)?)),
         (Some(_), Some(_)) => Err(Refusal::Code(ErrorCode::InvalidArgument)),
     }
 }
