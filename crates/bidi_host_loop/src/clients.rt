@@ -29,7 +29,6 @@ impl Hosted {
         for place in 0..self.peers.len() {
             if self.peers.is_ready(place) {
                 self.serve_place(world, place)?;
-                self.peers.hold_at_most(self.manners.most_held)?;
             }
         }
         Ok(())
@@ -43,11 +42,18 @@ impl Hosted {
     ) -> Result<(), HostingFault> {
         for _ in 0..MOST_TAKES {
             let (role, came) = self.peers.take(place)?;
-            if !self.handle(world, place, role, came)? {
+            let goes_on = self.handle(world, place, role, came)?;
+            self.bound_what_is_held()?;
+            if !goes_on {
                 return Ok(());
             }
         }
         Ok(())
+    }
+
+    // Fails the connections that hold most, if all together hold too much.
+    fn bound_what_is_held(&mut self) -> Result<(), HostingFault> {
+        Ok(self.peers.hold_at_most(self.manners.most_held)?)
     }
 
     // Takes one thing that came in. Returns whether more is taken in this turn.
@@ -191,7 +197,8 @@ impl Hosted {
     ) -> Result<(), HostingFault> {
         self.note_session()?;
         world.record(taken.line.as_str())?;
-        self.bring_about(world, taken.outcome)
+        self.bring_about(world, taken.outcome)?;
+        self.bound_what_is_held()
     }
 
     // Does what an input brings about.

@@ -31,6 +31,8 @@ pub(crate) struct Console {
     bytes: Vec<u8>,
     // How many bytes at the front were handed out already.
     start: usize,
+    // How many bytes behind those have no line feed.
+    searched: usize,
     // Whether the next bytes are the rest of a line that was too long.
     is_passing: bool,
     has_ended: bool,
@@ -42,6 +44,7 @@ impl Console {
         Console {
             bytes: Vec::new(alloc),
             start: 0,
+            searched: 0,
             is_passing: false,
             has_ended: false,
         }
@@ -86,9 +89,9 @@ impl Console {
         }
         let start = self.start.min(self.bytes.len());
         let held = &self.bytes[start..];
-        if let Some(end) = held.iter().position(|b| *b == b'\n') {
-            let said = line_said(alloc, &held[..end])?;
-            self.start = start.saturating_add(end).saturating_add(1);
+        if let Some(end) = line_end(held, self.searched) {
+            let said = line_said(alloc, &held[..end.min(held.len())])?;
+            self.give(end);
             return Ok(said);
         }
         let reason = if held.len() > LONGEST_LINE {
@@ -96,24 +99,39 @@ impl Console {
         } else if self.has_ended && !held.is_empty() {
             NO_LINE_FEED
         } else {
+            self.searched = held.len();
             return Ok(Said::Nothing);
         };
         self.start = self.bytes.len();
+        self.searched = 0;
         self.is_passing = true;
         Ok(Said::NoLine(reason))
+    }
+
+    // Hands out the bytes up to a line feed, which is so far behind those that were handed out.
+    fn give(&mut self, end: usize) {
+        self.start = self.start.saturating_add(end).saturating_add(1);
+        self.searched = 0;
     }
 
     // Skips the rest of a line that was too long, up to its line feed.
     fn pass(&mut self) {
         let start = self.start.min(self.bytes.len());
-        match self.bytes[start..].iter().position(|b| *b == b'\n') {
+        match line_end(&self.bytes[start..], 0) {
             Some(end) => {
-                self.start = start.saturating_add(end).saturating_add(1);
+                self.give(end);
                 self.is_passing = false;
             }
             None => self.start = self.bytes.len(),
         }
     }
+}
+
+// The place of the first line feed in these bytes, so many of which are known to have none.
+fn line_end(bytes: &[u8], searched: usize) -> Option<usize> {
+    let known = searched.min(bytes.len());
+    let place = bytes[known..].iter().position(|b| *b == b'\n')?;
+    Some(known.saturating_add(place))
 }
 
 // Decides what the bytes of a line are.

@@ -121,8 +121,8 @@ impl Hosted {
     /// last session has ended ([`Manners::ends_after_last`]). Writes to standard error where it listens.
     ///
     /// Memory holds the remote end, and for each connection the beginning of one message and at most
-    /// `most_waiting` bytes to be sent. If all connections together hold more than `most_held` bytes, the one
-    /// that holds most is closed.
+    /// `most_waiting` bytes to be sent. After each step, whatever it came from, all connections together hold at
+    /// most `most_held` bytes: those that hold most are closed.
     ///
     /// # Errors
     /// - `Listen`: waiting for connections failed.

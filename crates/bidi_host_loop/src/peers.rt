@@ -9,6 +9,9 @@ use mio::net::TcpStream;
 use std::alloc::{AllocError, Global};
 use std::time::Instant;
 
+/// How many bytes go around a payload at most: the head of a frame, or that of a reply.
+const FRAMING: usize = 256;
+
 /// The place of the connection with a number.
 #[derive(Clone, Copy)]
 struct Route {
@@ -25,6 +28,8 @@ pub(crate) struct Peers {
     most: usize,
     // The texts of the host's own connection, while it has one.
     own: Option<Own>,
+    // All connections together hold no more bytes than this.
+    held: usize,
 }
 
 impl Peers {
@@ -35,6 +40,7 @@ impl Peers {
             routes: Vec::new(alloc),
             most,
             own: None,
+            held: 0,
         }
     }
 
@@ -74,26 +80,32 @@ impl Peers {
         Some(place)
     }
 
-    /// If all connections together hold more than so many bytes, fails the one that holds most.
+    /// If all connections together hold more than so many bytes, fails those that hold most, one after another, until
+    /// they hold no more.
+    ///
+    /// What is held is counted only if what was added since the last count could be too much.
     pub(crate) fn hold_at_most(&mut self, most: usize) -> Result<(), AllocError> {
-        let mut held: usize = 0;
-        let mut largest: usize = 0;
-        let mut place = 0;
-        for at in 0..self.slots.len() {
-            let here = held_at(&self.slots, at);
-            held = held.saturating_add(here);
-            if here > largest {
-                largest = here;
-                place = at;
-            }
-        }
-        if held <= most {
+        if self.held <= most {
             return Ok(());
         }
-        match self.slots.get_mut(place) {
-            Some(Some(slot)) => slot.shed(),
-            _ => Ok(()),
+        // A connection fails at most twice: when it is open, and when it is closing.
+        for _ in 0..=self.slots.len().saturating_mul(2) {
+            let Held { all, largest } = held_by(&self.slots);
+            self.held = all;
+            if all <= most {
+                return Ok(());
+            }
+            match self.slots.get_mut(largest) {
+                Some(Some(slot)) => slot.shed()?,
+                _ => return Ok(()),
+            }
         }
+        Ok(())
+    }
+
+    // Notes that so many bytes more may be held.
+    fn hold(&mut self, more: usize) {
+        self.held = self.held.saturating_add(more);
     }
 
     /// Puts a connection at a free place. Its handshake has until the deadline.
@@ -144,10 +156,14 @@ impl Peers {
 
     /// Takes what came in at a place, with the role of the connection.
     pub(crate) fn take(&mut self, place: usize) -> Result<(Role, Came), AllocError> {
-        match self.slots.get_mut(place) {
-            Some(Some(slot)) => slot.take(),
-            _ => Ok((Role::Leaving, Came::Nothing)),
-        }
+        let before = held_at(&self.slots, place);
+        let taken = match self.slots.get_mut(place) {
+            Some(Some(slot)) => slot.take()?,
+            _ => (Role::Leaving, Came::Nothing),
+        };
+        let after = held_at(&self.slots, place);
+        self.hold(after.saturating_sub(before));
+        Ok(taken)
     }
 
     /// Answers a handshake: the connection at a place is open, in this role.
@@ -184,6 +200,7 @@ impl Peers {
 
     /// Replies to a call.
     pub(crate) fn reply(&mut self, place: usize, reply: &Reply) -> Result<(), AllocError> {
+        self.hold(queued(reply.json.len()));
         if let Some(Some(slot)) = self.slots.get_mut(place) {
             slot.role = Role::Leaving;
             slot.is_answered = true;
@@ -216,6 +233,7 @@ impl Peers {
 
     /// Queues a text for the connection at a place.
     pub(crate) fn send_to(&mut self, place: usize, text: &str) -> Result<(), AllocError> {
+        self.hold(queued(text.len()));
         match self.slots.get_mut(place) {
             Some(Some(slot)) => slot.send(text),
             _ => Ok(()),
@@ -238,6 +256,7 @@ impl Peers {
         let Some(place) = self.place_of(conn) else {
             return Ok(());
         };
+        self.hold(queued(bytes.len()));
         match self.slots.get_mut(place) {
             Some(Some(slot)) => slot.send_bytes(bytes),
             _ => Ok(()),
@@ -246,14 +265,20 @@ impl Peers {
 
     /// Queues a text for each connection of a page.
     pub(crate) fn send_to_pages(&mut self, text: &str) -> Result<(), AllocError> {
-        for slot in self.slots.iter_mut() {
-            if let Some(slot) = slot {
-                if slot.role == Role::Page {
-                    slot.send(text)?;
-                }
+        for place in 0..self.slots.len() {
+            if self.has_page(place) {
+                self.send_to(place, text)?;
             }
         }
         Ok(())
+    }
+
+    // Whether a connection of a page is at a place.
+    fn has_page(&self, place: usize) -> bool {
+        match self.slots.get(place) {
+            Some(slot) => is_page(slot),
+            None => false,
+        }
     }
 
     // The place of the connection with a number.
@@ -383,6 +408,35 @@ impl Peers {
         }
         next
     }
+}
+
+/// What connections hold.
+struct Held {
+    // How many bytes all hold together.
+    all: usize,
+    // The place of the one that holds most.
+    largest: usize,
+}
+
+// What these connections hold.
+fn held_by(slots: &[Option<Slot>]) -> Held {
+    let mut all: usize = 0;
+    let mut most: usize = 0;
+    let mut largest = 0;
+    for place in 0..slots.len() {
+        let here = held_at(slots, place);
+        all = all.saturating_add(here);
+        if here > most {
+            most = here;
+            largest = place;
+        }
+    }
+    Held { all, largest }
+}
+
+// How many bytes a payload of this length takes, with what frames it.
+fn queued(length: usize) -> usize {
+    length.saturating_add(FRAMING)
 }
 
 // How many bytes the connection at a place holds.

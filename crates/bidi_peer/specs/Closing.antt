@@ -13,9 +13,8 @@ abbrev pub code_of : Fault → CloseCode
 code_of fault.Protocol = status.Protocol
 code_of fault.NotUtf8 = status.Invalid
 code_of fault.TooLong = status.Size
-code_of fault.CrowdedIn = status.Size
+code_of fault.Crowded = status.Size
 code_of fault.Slow = status.Again
-code_of fault.CrowdedOut = status.Again
 
 -- the reason in the close frame of a fault
 abbrev pub reason_of : Fault → List ℕ
@@ -23,8 +22,7 @@ reason_of fault.Protocol = codes "a frame breaks the WebSocket protocol"
 reason_of fault.NotUtf8 = codes "a text is not UTF-8"
 reason_of fault.TooLong = codes "a message is too long"
 reason_of fault.Slow = codes "too much waits to be read"
-reason_of fault.CrowdedIn = codes "too much is held in all"
-reason_of fault.CrowdedOut = codes "too much is held in all"
+reason_of fault.Crowded = codes "too much is held in all"
 
 -- the code by which a server closes a connection: 1000 if the connection is done, 1001 if the server stops, or the one that is asked for
 abbrev pub closing_code : ClosingCause → CloseCode

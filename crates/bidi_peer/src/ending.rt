@@ -1,8 +1,8 @@
 //! How a connection ends, and how its end is told.
-ghost use Rattle.std.specs.Prelude.{◌≡◌, ◌≢◌, ◌↔◌, [], IsTrue, OnErr, OnOk};
+ghost use Rattle.std.specs.Prelude.{◌≡◌, ◌≢◌, ◌≤◌, ◌+◌, ◌↔◌, [], length, IsTrue, OnErr, OnOk};
 ghost use Rattle.bidi_peer.specs.Ends.{IsWordless, LearnsEnd};
 ghost use Rattle.bidi_peer.specs.Telling.{HasEnded, IsCut, IsInHandshake, IsQuiet, IsTimely, IsUnclosed, SameKnown, StaysKnown, StaysUnlessFailed, TellsOnce, owed};
-ghost use Rattle.bidi_peer.specs.Waiting.{unwritten};
+ghost use Rattle.bidi_peer.specs.Waiting.{untaken, unwritten};
 ghost use Rattle.bidi_peer.specs.Sending.{KeepsWhatCame};
 ghost use Rattle.bidi_peer.specs.declared.peer.Came.TheVariants.{Ended, Nothing};
 ghost use Rattle.bidi_peer.specs.declared.standing.End.TheVariants.{Due, Known};
@@ -55,11 +55,11 @@ impl<S: Read + Write + Drop> Peer<S> {
 
     /// Fails the connection, because the host holds too much in all and this connection holds most of it.
     ///
-    /// If more came than waits to be written, the close code is 1009, and what came is forgotten at once; all that
-    /// comes later is thrown away. Otherwise the close code is 1013. The reason is `too much is held in all`, the frame
-    /// is behind what waits, and the next take gives `Ended`. In the handshake the connection is over at once, and
-    /// `Ended` is not told. If it is closing or has ended, it is cut: what came and what waits is given back, and
-    /// the next take gives `Ended`, unless an earlier one did.
+    /// What came is given back at once. If more came than waits to be written, a close frame with code 1009 and the reason
+    /// `too much is held in all` is behind what waits, and all that comes later is thrown away. Otherwise the connection is
+    /// cut: what waits is given back too, since a peer that does not read would not see a close frame. The next take gives
+    /// `Ended`. In the handshake the connection is cut, and `Ended` is not told. If it is closing or has ended, it is cut,
+    /// and the next take gives `Ended`, unless an earlier one did.
     ///
     /// # Errors
     /// No memory: an allocation failed, and nothing has changed.
@@ -68,6 +68,10 @@ impl<S: Read + Write + Drop> Peer<S> {
         ensures stays_known { StaysKnown self.old.end self.new.end }
         // The connection is no longer open.
         ensures ok { OnOk result (self.new.state ≢ Open) }
+        // What came is given back.
+        ensures forgets { OnOk result ((untaken self.new.inbox ≡ []) × (self.new.fragments ≡ 0)) }
+        // Unless more came than waited to be written, nothing waits any more.
+        ensures frees { length (untaken self.old.inbox) + self.old.fragments ≤ length (unwritten self.old.outbox) → OnOk result (unwritten self.new.outbox ≡ []) }
         // If it was not open, nothing more is read or written.
         ensures cut { self.old.state ≢ Open → self.new.state ≡ Done }
         // In the handshake the caller knows the end.
@@ -79,15 +83,15 @@ impl<S: Read + Write + Drop> Peer<S> {
     {
         match self.state {
             State::Open if self.came() > self.outbox.len() => {
-                self.give_up(Fault::CrowdedIn)?;
+                self.give_up(Fault::Crowded)?;
                 self.forget();
             }
-            State::Open => self.give_up(Fault::CrowdedOut)?,
             State::Head | State::Asked(_) | State::Called => {
                 self.end = End::Known;
                 self.cut();
             }
-            State::Closing | State::Leaving | State::Done | State::Failed(_) => self.cut(),
+            State::Open | State::Closing | State::Leaving | State::Done | State::Failed(_) =>
+                self.cut(),
         }
         Ok(())
     }
@@ -181,6 +185,8 @@ impl<S: Read + Write + Drop> Peer<S> {
     pub(crate) fn cut(&mut self)
         ensures end { self.new.end ≡ owed self.old.end }
         ensures state { self.new.state ≡ Done }
+        ensures forgets { (untaken self.new.inbox ≡ []) × (self.new.fragments ≡ 0) }
+        ensures frees { unwritten self.new.outbox ≡ [] }
     {
         self.outbox.clear();
         self.stop(State::Done);
@@ -204,6 +210,7 @@ impl<S: Read + Write + Drop> Peer<S> {
         ensures state { self.new.state ≡ state }
         ensures stream { self.new.stream ≡ self.old.stream }
         ensures outbox { unwritten self.new.outbox ≡ unwritten self.old.outbox }
+        ensures forgets { (untaken self.new.inbox ≡ []) × (self.new.fragments ≡ 0) }
     {
         self.owe_end();
         self.state = state;
@@ -217,6 +224,7 @@ impl<S: Read + Write + Drop> Peer<S> {
         ensures state { self.new.state ≡ self.old.state }
         ensures stream { self.new.stream ≡ self.old.stream }
         ensures outbox { unwritten self.new.outbox ≡ unwritten self.old.outbox }
+        ensures forgets { (untaken self.new.inbox ≡ []) × (self.new.fragments ≡ 0) }
     {
         self.inbox.give_back();
         self.context = new_context(self.alloc);

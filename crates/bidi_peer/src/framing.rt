@@ -59,9 +59,7 @@ pub(crate) enum Fault {
     /// Too much waits to be written.
     Slow,
     /// The host holds too much, and most of this connection's share came from the peer.
-    CrowdedIn,
-    /// The host holds too much, and most of this connection's share waits to be written.
-    CrowdedOut,
+    Crowded,
 }
 
 impl Fault {
@@ -72,8 +70,8 @@ impl Fault {
         match self {
             Fault::Protocol => CloseCode::Protocol,
             Fault::NotUtf8 => CloseCode::Invalid,
-            Fault::TooLong | Fault::CrowdedIn => CloseCode::Size,
-            Fault::Slow | Fault::CrowdedOut => CloseCode::Again,
+            Fault::TooLong | Fault::Crowded => CloseCode::Size,
+            Fault::Slow => CloseCode::Again,
         }
     }
 
@@ -86,7 +84,7 @@ impl Fault {
             Fault::NotUtf8 => "a text is not UTF-8",
             Fault::TooLong => "a message is too long",
             Fault::Slow => "too much waits to be read",
-            Fault::CrowdedIn | Fault::CrowdedOut => "too much is held in all",
+            Fault::Crowded => "too much is held in all",
         }
     }
 }

@@ -51,7 +51,7 @@ page hears no effect: the connection is not open
 page says names weather
 page hears ok
 1 says {"id":1,"method":"session.subscribe","params":{"events":["weather"]}}
-1 hears {"id":1,"result":{"subscription":"@u1"},"type":"success"}
+1 hears {"id":1,"result":{"subscription":"00000001-0005-8000-8000-800000000001"},"type":"success"}
 page says emit {"method":"weather.changed","params":{"sky":0.5}}
 page hears ok
 1 has {"method":"weather.changed","params":{"sky":0.5},"type":"event"}

@@ -97,7 +97,7 @@ page hears ok
 record ends names *
 2 begins @s1
 2 says {"id":1,"method":"session.subscribe","params":{"events":["network"]}}
-2 hears {"id":1,"result":{"subscription":"@u1"},"type":"success"}
+2 hears {"id":1,"result":{"subscription":"00000001-0005-8000-8000-800000000001"},"type":"success"}
 page says emit {"method":"network.fetchError","params":{}}
 page hears ok
 2 has {"method":"network.fetchError","params":{},"type":"event"}"#;
@@ -115,7 +115,7 @@ fn names_that_the_profile_lacks_are_held(rt: HostRuntime) -> Result<(), Fail> {
 const AFTER_A_PAGE: &str = r#"record ends log @c1 info a
 1 begins @s1
 1 says {"id":1,"method":"session.subscribe","params":{"events":["network"]}}
-1 hears {"id":1,"result":{"subscription":"@u1"},"type":"success"}"#;
+1 hears {"id":1,"result":{"subscription":"00000001-0005-8000-8000-800000000001"},"type":"success"}"#;
 
 #[test]
 fn names_are_held_before_the_lines_of_a_page(rt: HostRuntime) -> Result<(), Fail> {

@@ -474,6 +474,27 @@ fn texts_that_wait_have_a_bound_in_all(rt: HostRuntime) -> Result<(), Fail> {
     check_scene(&rt, manners, "", WAITING)
 }
 
+// What lines of standard input send is bounded too, although nobody reads.
+const TYPED_WAITING: &str = r#"slow begins @s1
+slow says {"id":1,"method":"session.subscribe","params":{"events":["log.entryAdded"]}}
+slow hears {"id":1,"result":{"subscription":"@u1"},"type":"success"}
+«64 input types log @c1 info ‹100000 x›
+input hears ok
+»input types send 1 x
+input hears no effect: the connection is not open
+quick begins @s2
+quick is served
+slow leaves"#;
+
+#[test]
+fn texts_that_wait_for_lines_have_a_bound_in_all(rt: HostRuntime) -> Result<(), Fail> {
+    let manners = Manners {
+        most_held: 300_000,
+        ..TYPING
+    };
+    check_scene(&rt, manners, "", TYPED_WAITING)
+}
+
 const SLOW: &str = r#"page opens /page
 page says value {"text":"long","returns":{"type":"string","value":"‹100000 x›"}}
 page hears ok

@@ -165,17 +165,21 @@ fn what_is_held_is_counted(rt: HostRuntime) -> Result<(), Fail> {
     check_rows::<Peers>(rt.alloc(), HELD)
 }
 
-/// A connection that is shed before it is open, or while it ends, is over without a close frame.
+/// A connection that is shed before it is open, while it ends, or while more waits to be sent than came, is over without a
+/// close frame.
 const SHED_AT_ONCE: &str = "
 before it asks | whole 47 45 54 20 / take shed state held take -> - over 0 - /
 while it asks | whole HEAD / take shed state take -> Asks(/session) over - /
 while it closes | takes129 HEAD / take open send done shed state held take state take -> Asks(/session) busy 0 Ended over - / 101 81 02 7b 7d
 while its answer waits | takes129 HEAD . 88 80 00 00 00 00 / take open take take state shed state held take -> Asks(/session) - Ended waits over 0 - / 101
 behind its end | whole+ends HEAD / take open take shed state take -> Asks(/session) Ended over - / 101
+more waits | takes1 HEAD / take open shed state held take state -> Asks(/session) busy 0 Ended over / 48
+more waits than came | takes129 HEAD . 01 81 00 00 00 00 78 / take open take take send held shed state held take state -> Asks(/session) - - 5 busy 0 Ended over / 101
+nothing is held | whole HEAD / take open shed state take send state -> Asks(/session) busy Ended over / 101
 ";
 
 #[test]
-fn a_connection_that_is_not_open_is_shed_at_once(rt: HostRuntime) -> Result<(), Fail> {
+fn a_connection_that_does_not_read_or_is_not_open_is_cut(rt: HostRuntime) -> Result<(), Fail> {
     check_rows::<Peers>(rt.alloc(), SHED_AT_ONCE)
 }
 
@@ -198,11 +202,8 @@ more came | whole 01 83 00 00 00 00 78 78 78 / take open take take held shed hel
 more came, in part | whole 81 85 00 00 00 00 7b / take open take take held shed held take state -> Asks(/session) - - 7 0 Ended busy / 0 1009 too much is held in all
 what comes later is thrown away | whole 01 83 00 00 00 00 78 . 78 {} . {} / take open take take shed take take take take held state -> Asks(/session) - - Ended - - - 0 busy / 0 1009 too much is held in all
 and then the end | whole+ends 01 83 00 00 00 00 78 . 78 {} / take open take take shed take take take state -> Asks(/session) - - Ended - - over / 0 1009 too much is held in all
-more waits | takes1 / take open shed take flushes state -> Asks(/session) Ended busy / 0 1013 too much is held in all
-more waits than came | takes129 01 81 00 00 00 00 78 / take open take take send held shed flushes take state -> Asks(/session) - - 5 Ended busy / 1 1013 too much is held in all
-nothing is held | whole / take open shed take state send -> Asks(/session) Ended busy / 0 1013 too much is held in all
-twice | whole / take open shed shed state take state -> Asks(/session) busy Ended over / 0 1013 too much is held in all
-behind its end | whole / take open shed take shed state -> Asks(/session) Ended over / 0 1013 too much is held in all
+twice | whole 01 81 00 00 00 00 78 / take open take take shed shed state take state -> Asks(/session) - - busy Ended over / 0 1009 too much is held in all
+behind its end | whole 01 81 00 00 00 00 78 / take open take take shed take shed state -> Asks(/session) - - Ended over / 0 1009 too much is held in all
 ";
 
 #[test]
