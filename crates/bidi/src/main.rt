@@ -26,16 +26,20 @@ use std::alloc::Global;
 use std::net::{Ipv4Addr, SocketAddr, SocketAddrV4, TcpListener};
 use std::process::ExitCode;
 use std::{env, fs, io};
-use system::{System, page_of};
+use system::{System, held_streams, page_of};
 
 fn main(rt: HostRuntime) -> ExitCode {
-    ExitCode::from(match status(&rt) {
+    // If nothing can stand in for a closed stream, the program runs without.
+    let streams = held_streams(&rt);
+    let status = match status(&rt) {
         Ok(status) => status,
         Err(error) if error.kind() == io::ErrorKind::InvalidData => {
             told(&rt, b"error: a word of the command line is not UTF-8\n", 2)
         }
         Err(_) => told(&rt, OUT_OF_MEMORY, 3),
-    })
+    };
+    drop(streams);
+    ExitCode::from(status)
 }
 
 /// The line of a program that has no memory for its command line.

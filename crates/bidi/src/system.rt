@@ -4,11 +4,35 @@ use bidi_recorder::HostingFault;
 use std::fs::{self, File};
 use std::io;
 use std::io::{Read, Write};
-use std::os::fd::RawFd;
+use std::os::fd::{AsRawFd, RawFd};
 use std::time::Instant;
 
 /// The descriptor of standard input.
 const STANDARD_INPUT: RawFd = 0;
+
+/// The descriptors of the standard streams are below this one.
+const STREAMS: RawFd = 3;
+
+/// The file that stands in for a standard stream that is closed.
+const NOWHERE: &str = "/dev/null";
+
+/// Opens a file in place of each standard stream that is closed, so that no other file and no socket gets its descriptor.
+/// As before, the input cannot be read, and the outputs cannot be written. Hold the files as long as the program runs.
+pub(crate) fn held_streams(rt: &HostRuntime) -> io::Result<Vec<File>> {
+    let mut held = Vec::new(rt.alloc());
+    for _ in 0..STREAMS {
+        let read = fs::open(rt, NOWHERE)?;
+        match read.as_raw_fd() {
+            STANDARD_INPUT => {
+                drop(read);
+                held.push(fs::create(rt, NOWHERE)?)?;
+            }
+            fd if fd < STREAMS => held.push(read)?,
+            _ => return Ok(held),
+        }
+    }
+    Ok(held)
+}
 
 /// A record: its file, and the name that each further file is made of.
 #[derive(Drop)]
