@@ -1,19 +1,18 @@
 -- Subscriptions to names that lose some of them, and how many names there are.
 use Rattle.std.proofs.Common.{◌≡◌, ◌∙◌, ◌<◌, ◌+◌, ℕ, true, false, not, List, [], ◌∷◌, map, refl, sym, ap, arith}
 use Rattle.std.proofs.lemmas.Bool.Decides.{nat_tests}
-use Rattle.std.specs.Prelude.{◌==◌, ◌&&◌, nat_lt, nat_le, bytes_eq, filter}
-use Rattle.std.specs.List.{list_any}
+use Rattle.std.specs.Prelude.{◌==◌, ◌&&◌, nat_lt, nat_le}
 use Rattle.bidi_sessions.specs.Scope.{is_global}
 use Rattle.bidi_names.specs.declared.subscriptions.NamedSubscription.{NamedSubscription}
 use Rattle.bidi_names.specs.Sums.{total}
-use Rattle.bidi_names.specs.Subscriptions.{Named, named_of, stripped, names_in, is_too_many}
+use Rattle.bidi_names.specs.Subscriptions.{Named, named_of, without, stripped, names_in, is_too_many}
 
-pub stripped-global : (s : ℕ) (names left : List (List ℕ)) (n : Named) → ((n.session == s) && is_global n.scope) ≡ true
-    → left ≡ filter (λ name. not (list_any (bytes_eq name) names)) n.names → record n { names = left } ≡ stripped s names n
-stripped-global s names left n global is = rw global (ap (λ ns. record n { names = ns }) is)
+pub stripped-global : (s : ℕ) (names modules : List (List ℕ)) (n : Named) → ((n.session == s) && is_global n.scope) ≡ true
+    → without names modules n ≡ stripped s names modules n
+stripped-global s names modules n global = rw global refl
 
-pub stripped-other : (s : ℕ) (names : List (List ℕ)) (n : Named) → ((n.session == s) && is_global n.scope) ≡ false → stripped s names n ≡ n
-stripped-other s names n other = rw other refl
+pub stripped-other : (s : ℕ) (names modules : List (List ℕ)) (n : Named) → ((n.session == s) && is_global n.scope) ≡ false → stripped s names modules n ≡ n
+stripped-other s names modules n other = rw other refl
 
 -- ---- how many names a session has
 

@@ -1,19 +1,19 @@
 -- What commands ask of names that a test made known, and their texts without these names. This project's own.
-use Rattle.std.specs.Prelude.{ℕ, ◌==◌, Bool, not, ◌&&◌, if◌then◌else◌, List, [], ◌∷◌, ◌++◌, map, length, filter, codes, decimal, bytes_eq, is_ok, Option, Some, None, option_map, option_and_then}
+use Rattle.std.specs.Prelude.{ℕ, ◌==◌, not, if◌then◌else◌, List, [], ◌∷◌, ◌++◌, map, length, filter, codes, decimal, bytes_eq, Option, Some, None, option_map, option_and_then}
 use Rattle.json.specs.Json.{Json, string, array, Items, no_items, item}
 use Rattle.json.specs.Find.{get, as_str, as_array}
 use Rattle.json.specs.Value.{items_of}
-use Rattle.bidi_sessions.specs.EventNames.{all_named}
 use Rattle.bidi_rows.specs.Command.{Command, command_of}
 use Rattle.bidi_rows.specs.Rows.{compact}
-use Rattle.bidi_names.specs.Names.{is_known}
+use Rattle.bidi_names.specs.Names.{is_foreign, is_module}
 
--- What a command asks of names that are known: its id, the names, those of them that the profile does not have, its text without these, if
--- there are any, and the ids of its scope, if it has one.
+-- What a command asks with its names: its id, the names that only the test has, the others, those of them that are modules with further events
+-- of the test, its text with the others alone if it has names that only the test has, and the ids of its scope, if it has one.
 pub record Wanted : Type 0 where
   pub id : ℕ
-  pub names : List (List ℕ)
   pub foreign : List (List ℕ)
+  pub others : List (List ℕ)
+  pub modules : List (List ℕ)
   pub part : Option (List ℕ)
   pub contexts : Option (List (List ℕ))
   pub users : Option (List (List ℕ))
@@ -22,7 +22,7 @@ pub record Wanted : Type 0 where
 pub data Asked : Type 0 where
   Subscribes : (wanted : Wanted) → Asked
   Unsubscribes : (wanted : Wanted) → Asked
-  Ends : (ids : List (List ℕ)) → Asked
+  Ends : (id : ℕ) (ids : List (List ℕ)) → Asked
 
 -- ---- the names
 
@@ -45,9 +45,9 @@ abbrev pub ids_of : Option Json → Option (Option (List (List ℕ)))
 ids_of None = Some None
 ids_of (Some j) = option_map Some (listed j)
 
--- whether only the test has a name: it is known, and the profile has no event and no module of this name
-abbrev pub is_foreign : List (List ℕ) → List ℕ → Bool
-is_foreign known name = is_known known name && not (is_ok (all_named (name ∷ [])))
+-- some ids, if there are any
+abbrev pub some_ids : List (List ℕ) → Option (List (List ℕ))
+some_ids ids = if length ids == 0 then None else Some ids
 
 -- ---- the text without names that only the test has
 
@@ -60,10 +60,6 @@ abbrev pub ids_text : List ℕ → Option (List (List ℕ)) → List ℕ
 ids_text name None = []
 ids_text name (Some ids) = codes ",\"" ++ (name ++ (codes "\":" ++ strings_text ids))
 
--- these names; in place of none, a module without events
-abbrev pub or_no_events : List (List ℕ) → List (List ℕ)
-or_no_events names = if length names == 0 then codes "session" ∷ [] else names
-
 -- the text of a command with these names in this scope
 -- example: `{"id":1,"method":"session.subscribe","params":{"events":["log"]}}`
 abbrev pub names_text : ℕ → List ℕ → List (List ℕ) → Option (List (List ℕ)) → Option (List (List ℕ)) → List ℕ
@@ -73,43 +69,59 @@ names_text id method names contexts users =
 
 -- the text of a command with the other names alone, if only the test has some of its names
 abbrev pub text_without : ℕ → List ℕ → List (List ℕ) → List (List ℕ) → Option (List (List ℕ)) → Option (List (List ℕ)) → Option (List ℕ)
-text_without id method foreign others contexts users =
-    if length foreign == 0 then None else Some (names_text id method (or_no_events others) contexts users)
+text_without id method foreign others contexts users = if length foreign == 0 then None else Some (names_text id method others contexts users)
+
+-- the text of a command that ends the subscriptions of these ids
+-- example: `{"id":1,"method":"session.unsubscribe","params":{"subscriptions":["u"]}}`
+abbrev pub ending_text : ℕ → List (List ℕ) → List ℕ
+ending_text id ids =
+    codes "{\"id\":" ++ (decimal id ++ (codes ",\"method\":\"session.unsubscribe\",\"params\":{\"subscriptions\":" ++ (strings_text ids ++ codes "}}")))
 
 -- ---- what is asked
 
--- what is asked, if it is of any name
-abbrev pub of_any : Wanted → Option Wanted
-of_any wanted = if length wanted.names == 0 then None else Some wanted
+-- what a command asks with these names in this scope
+abbrev pub wanted_of_names : List (List ℕ) → Command → List (List ℕ) → Option (List (List ℕ)) → Option (List (List ℕ)) → Wanted
+wanted_of_names known command names contexts users =
+    let others = filter (λ n. not (is_foreign known n)) names in
+    record {
+      id = command.id;
+      foreign = filter (is_foreign known) names;
+      others = others;
+      modules = filter (is_module known) others;
+      part = text_without command.id command.method (filter (is_foreign known) names) others contexts users;
+      contexts = contexts;
+      users = users;
+    }
 
 -- what a command asks with these names in this scope, if it has names and the scope is one
 abbrev pub wanted_with : List (List ℕ) → Command → Option (List (List ℕ)) → Option (Option (List (List ℕ))) → Option (Option (List (List ℕ))) → Option Wanted
-wanted_with known command (Some names) (Some contexts) (Some users) = of_any (record {
-  id = command.id;
-  names = filter (is_known known) names;
-  foreign = filter (is_foreign known) names;
-  part = text_without command.id command.method (filter (is_foreign known) names) (filter (λ n. not (is_foreign known n)) names) contexts users;
-  contexts = contexts;
-  users = users;
-})
+wanted_with known command (Some names) (Some contexts) (Some users) = Some (wanted_of_names known command names contexts users)
 wanted_with known command names contexts users = None
 
--- what a command with these params asks of names
+-- what a command with these params asks with the names that it lists in its scope
 abbrev pub wanted : List (List ℕ) → Command → Json → Option Wanted
 wanted known command params =
     wanted_with known command (option_and_then listed (get (codes "events") params)) (ids_of (get (codes "contexts") params))
     (ids_of (get (codes "userContexts") params))
 
+-- what a command with these params asks with the names that it lists, whatever its scope
+abbrev pub unwanted : List (List ℕ) → Command → Json → Option Wanted
+unwanted known command params = wanted_with known command (option_and_then listed (get (codes "events") params)) (Some None) (Some None)
+
 -- what a command to unsubscribe asks, with the subscriptions that it lists, if it lists any
-abbrev pub ended_or : Option (List (List ℕ)) → Option Wanted → Option Asked
-ended_or (Some ids) asked = Some (Ends ids)
-ended_or None asked = option_map Unsubscribes asked
+abbrev pub ended_or : ℕ → Option (List (List ℕ)) → Option Wanted → Option Asked
+ended_or id (Some ids) asked = Some (Ends id ids)
+ended_or id None asked = option_map Unsubscribes asked
+
+-- the subscriptions that these params list, if they list any
+abbrev pub ids_listed : Json → Option (List (List ℕ))
+ids_listed params = option_and_then some_ids (option_and_then listed (get (codes "subscriptions") params))
 
 -- what a command with these params asks
 abbrev pub asked_with : List (List ℕ) → Command → Json → Option Asked
 asked_with known command params =
     if bytes_eq command.method (codes "session.subscribe") then option_map Subscribes (wanted known command params)
-    else if bytes_eq command.method (codes "session.unsubscribe") then ended_or (option_and_then listed (get (codes "subscriptions") params)) (wanted known command params)
+    else if bytes_eq command.method (codes "session.unsubscribe") then ended_or command.id (ids_listed params) (unwanted known command params)
     else None
 
 -- what a command asks

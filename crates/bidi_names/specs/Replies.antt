@@ -32,6 +32,11 @@ succeeded sent = ends_in (codes ",\"type\":\"success\"}") (last_text sent)
 abbrev pub Gives : ℕ → List Sent → ℕ → Type 0
 Gives s sent n = (front : List ℕ) × (last_text sent ≡ Some (front ++ (id_text Subscription s n ++ codes "\"},\"type\":\"success\"}")))
 
+-- the result that gives the id of this subscription of a session
+-- example: `{"subscription":"00000001-0005-8000-8000-000000000001"}`
+abbrev pub id_result : ℕ → ℕ → List ℕ
+id_result s n = codes "{\"subscription\":\"" ++ (id_text Subscription s n ++ codes "\"}")
+
 -- These are the numbers below 2^48 whose ids are among these.
 abbrev pub AreNumbers : (ℕ → List ℕ) → List (List ℕ) → List ℕ → Type 0
 AreNumbers id_of_number ids ns = (n : ℕ) → n < 2 ^ 48 → is_listed ns n ≡ list_any (λ id. bytes_eq id (id_of_number n)) ids

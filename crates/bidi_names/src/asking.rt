@@ -1,49 +1,45 @@
 //! What a command asks of names that a test made known.
-ghost use Rattle.std.specs.Prelude.{◌≡◌, ◌==◌, ◌∷◌, [], Some, not, length, map, filter, option_map, option_and_then, codes, string_bytes, IfOk};
-ghost use Rattle.json.specs.Value.{value_view, items_view, items_of};
-ghost use Rattle.json.specs.Json.{array, string};
+ghost use Rattle.std.specs.Prelude.{◌≡◌, ◌==◌, Some, not, length, filter, option_map, option_and_then, codes, string_bytes, IfOk};
+ghost use Rattle.json.specs.Value.{value_view, items_view};
+ghost use Rattle.json.specs.Json.{array};
 ghost use Rattle.json.specs.Tree.{ItemsHaveNumbers};
 ghost use Rattle.json.specs.Find.{get};
 ghost use Rattle.bidi_rows.specs.Command.{command_in};
 ghost use Rattle.bidi_rows.specs.Rows.{compact};
 ghost use Rattle.bidi_rows.specs.View.{command_seen};
-ghost use Rattle.bidi_names.specs.Names.{is_known};
-ghost use Rattle.bidi_names.specs.Asked.{is_foreign, strings_of, listed, ids_of, strings_text, ids_text, or_no_events, names_text, text_without, wanted, wanted_with, ended_or, asked_with, asked_by, asked_of};
+ghost use Rattle.bidi_names.specs.Names.{is_foreign, is_module};
+ghost use Rattle.bidi_names.specs.Asked.{strings_of, listed, ids_listed, ids_of, strings_text, ids_text, names_text, text_without, ending_text, wanted, unwanted, wanted_of_names, ended_or, asked_with, asked_by, asked_of};
 ghost use Rattle.bidi_names.specs.View.{texts_of, ids_seen, wanted_of, asked_seen};
 
-use crate::names::is_known;
-use bidi_handles::Refusal;
+use crate::names::{is_foreign, is_module};
 use bidi_rows::{Command, command_in, compact};
-use bidi_sessions::all_named;
 use bidi_tree::JsUint;
 use json::{Error as JsonError, Scratch, Value};
 use std::alloc::{AllocError, Global};
-use std::slice::from_ref;
 
-/// A module without events: a subscription to it is made, but enables nothing.
-const NO_EVENTS: &str = "session";
-
-/// What a command asks of names that are known.
+/// What a command asks of names.
 #[derive(Drop)]
 pub enum NamesAsked {
-    /// To subscribe to them.
+    /// To subscribe to names.
     Subscribe(NamesWanted),
-    /// To unsubscribe from them by name.
+    /// To unsubscribe from names.
     Unsubscribe(NamesWanted),
-    /// To end the subscriptions of these ids.
-    End(Vec<String>),
+    /// To end subscriptions.
+    End(IdsWanted),
 }
 
-/// What a command asks of these names.
+/// What a command asks with its names.
 #[derive(Drop)]
 pub struct NamesWanted {
     /// The id of the command.
     pub id: JsUint,
-    /// The names that are known.
-    pub names: Vec<String>,
-    /// Those of them that the profile does not have.
+    /// The names that only the test has.
     pub foreign: Vec<String>,
-    /// The text without those, if there are any.
+    /// The other names.
+    pub others: Vec<String>,
+    /// Those of the others that are modules with further events of the test.
+    pub modules: Vec<String>,
+    /// The text with the others alone, if the command has names that only the test has.
     pub part: Option<String>,
     /// The ids of contexts, if there are any.
     pub contexts: Option<Vec<String>>,
@@ -51,7 +47,16 @@ pub struct NamesWanted {
     pub users: Option<Vec<String>>,
 }
 
-/// What the command that a text is asks of names that are known; `None` if it asks nothing of them. The text is read once.
+/// What a command asks with the ids of subscriptions.
+#[derive(Drop)]
+pub struct IdsWanted {
+    /// The id of the command.
+    pub id: JsUint,
+    /// The ids.
+    pub ids: Vec<String>,
+}
+
+/// What the command that a text is asks of names; `None` if it asks nothing of any. The text is read once.
 ///
 /// # Errors
 /// No memory: an allocation failed.
@@ -126,17 +131,53 @@ fn unsubscribe_asked(
     params: &Value<'_>,
     known: &[String],
 ) -> Result<Option<NamesAsked>, AllocError>
-    ensures { IfOk result (λ asked. option_map asked_seen asked ≡ ended_or (option_and_then listed (get (codes "subscriptions") (value_view params.now)))
-        (wanted (texts_of known.now) (command_seen command.now) (value_view params.now))) }
+    ensures { IfOk result (λ asked. option_map asked_seen asked ≡ ended_or (command_seen command.now).id (ids_listed (value_view params.now))
+        (unwanted (texts_of known.now) (command_seen command.now) (value_view params.now))) }
 {
-    if let Some(ids) = strings_at(alloc, params, "subscriptions")? {
-        return Ok(Some(NamesAsked::End(ids)));
+    let id = command.id;
+    if let Some(ids) = ids_listed(alloc, params)? {
+        return Ok(Some(NamesAsked::End(IdsWanted { id, ids })));
     }
-    let wanted = names_wanted(alloc, command, params, known)?;
+    let wanted = names_unwanted(alloc, command, params, known)?;
     Ok(wanted.map(NamesAsked::Unsubscribe))
 }
 
-// What a command with these params asks of the names that they list.
+// The subscriptions that the params of a command list, if they list any.
+fn ids_listed(alloc: Global, params: &Value<'_>) -> Result<Option<Vec<String>>, AllocError>
+    ensures { IfOk result (λ found. ids_seen found ≡ ids_listed (value_view params.now)) }
+{
+    let Some(ids) = strings_at(alloc, params, "subscriptions")? else {
+        return Ok(None);
+    };
+    if are_none(&ids) {
+        return Ok(None);
+    }
+    Ok(Some(ids))
+}
+
+// Whether there are no names.
+fn are_none(names: &[String]) -> bool
+    ensures { result ≡ (length (texts_of names.now) == 0) }
+{
+    names.len() == 0
+}
+
+// What a command with these params asks with the names that they list, whatever its scope.
+fn names_unwanted(
+    alloc: Global,
+    command: &Command<'_, '_>,
+    params: &Value<'_>,
+    known: &[String],
+) -> Result<Option<NamesWanted>, AllocError>
+    ensures { IfOk result (λ found. option_map wanted_of found ≡ unwanted (texts_of known.now) (command_seen command.now) (value_view params.now)) }
+{
+    let Some(names) = strings_at(alloc, params, "events")? else {
+        return Ok(None);
+    };
+    Ok(Some(wanted_of_names(alloc, command, known, &names, None, None)?))
+}
+
+// What a command with these params asks with the names that they list.
 fn names_wanted(
     alloc: Global,
     command: &Command<'_, '_>,
@@ -154,49 +195,32 @@ fn names_wanted(
     let Some(users) = ids_at(alloc, params, "userContexts")? else {
         return Ok(None);
     };
-    wanted_with(alloc, command, known, names, contexts, users)
+    Ok(Some(wanted_of_names(alloc, command, known, &names, contexts, users)?))
 }
 
-// What a command asks with these names in this scope, if one of the names is known.
-fn wanted_with(
+// What a command asks with these names in this scope.
+fn wanted_of_names(
     alloc: Global,
     command: &Command<'_, '_>,
     known: &[String],
-    mut names: Vec<String>,
+    names: &[String],
     contexts: Option<Vec<String>>,
     users: Option<Vec<String>>,
-) -> Result<Option<NamesWanted>, AllocError>
-    ensures { IfOk result (λ found. option_map wanted_of found ≡ wanted_with (texts_of known.now) (command_seen command.now)
-        (Some (texts_of names.items)) (Some (ids_seen contexts)) (Some (ids_seen users))) }
+) -> Result<NamesWanted, AllocError>
+    ensures { IfOk result (λ found. wanted_of found ≡ wanted_of_names (texts_of known.now) (command_seen command.now) (texts_of names.now) (ids_seen contexts) (ids_seen users)) }
 {
-    let Parted { foreign, others } = part_names(alloc, known, &names)?;
+    let Parted { foreign, others } = part_names(alloc, known, names)?;
+    let modules = modules_in(alloc, known, &others)?;
     let part = text_without(alloc, command, &foreign, &others, &contexts, &users)?;
-    keep_known(known, &mut names);
-    if are_none(&names) {
-        return Ok(None);
-    }
-    Ok(Some(NamesWanted {
+    Ok(NamesWanted {
         id: command.id,
-        names,
         foreign,
+        others,
+        modules,
         part,
         contexts,
         users,
-    }))
-}
-
-// Whether there are no names.
-fn are_none(names: &[String]) -> bool
-    ensures { result ≡ (length (texts_of names.now) == 0) }
-{
-    names.len() == 0
-}
-
-// Removes the names that are not known.
-fn keep_known(known: &[String], names: &mut Vec<String>)
-    ensures { texts_of names.new.items ≡ filter (is_known (texts_of known.now)) (texts_of names.old.items) }
-{
-    names.retain(|name| is_known(known, name.as_str()));
+    })
 }
 
 // The names of a command: those that only the test has, and the others.
@@ -224,18 +248,17 @@ fn part_names(alloc: Global, known: &[String], names: &[String]) -> Result<Parte
     Ok(Parted { foreign, others })
 }
 
-// Whether only the test has a name.
-fn is_foreign(alloc: Global, known: &[String], name: &String) -> Result<bool, AllocError>
-    ensures { IfOk result (λ is. is ≡ is_foreign (texts_of known.now) (string_bytes name.now)) }
+// Those of these names that are modules with further events of the test.
+fn modules_in(alloc: Global, known: &[String], names: &[String]) -> Result<Vec<String>, AllocError>
+    ensures { IfOk result (λ modules. texts_of modules.items ≡ filter (is_module (texts_of known.now)) (texts_of names.now)) }
 {
-    if !is_known(known, name.as_str()) {
-        return Ok(false);
+    let mut modules = Vec::new(alloc);
+    for name in names {
+        if is_module(known, name.as_str()) {
+            modules.push(String::from_str(alloc, name.as_str())?)?;
+        }
     }
-    match all_named(alloc, from_ref(name)) {
-        Ok(_) => Ok(false),
-        Err(Refusal::Code(_)) => Ok(true),
-        Err(Refusal::NoMemory) => Err(AllocError),
-    }
+    Ok(modules)
 }
 
 // The text of a command with the other names alone, if only the test has some of its names.
@@ -257,7 +280,7 @@ fn text_without(
     Ok(Some(text))
 }
 
-// The text of a command with these names in this scope; in place of no names, it has a module without events.
+// The text of a command with these names in this scope.
 fn names_text(
     alloc: Global,
     command: &Command<'_, '_>,
@@ -265,11 +288,11 @@ fn names_text(
     contexts: &Option<Vec<String>>,
     users: &Option<Vec<String>>,
 ) -> Result<String, AllocError>
-    ensures { IfOk result (λ text. string_bytes text ≡ names_text command.now.id.value command.now.method.now (or_no_events (texts_of names.now)) (ids_seen contexts.now) (ids_seen users.now)) }
+    ensures { IfOk result (λ text. string_bytes text ≡ names_text command.now.id.value command.now.method.now (texts_of names.now) (ids_seen contexts.now) (ids_seen users.now)) }
 {
     let id = command.id.value;
     let method = command.method;
-    let events = events_text(alloc, names)?;
+    let events = strings_text(alloc, names)?;
     let contexts = ids_text(alloc, "contexts", contexts)?;
     let users = ids_text(alloc, "userContexts", users)?;
     format!(in alloc;
@@ -277,23 +300,19 @@ fn names_text(
     )
 }
 
-// The JSON text of the names of a command.
-fn events_text(alloc: Global, names: &[String]) -> Result<String, AllocError>
-    ensures { IfOk result (λ text. string_bytes text ≡ strings_text (or_no_events (texts_of names.now))) }
+/// The text of a command that ends the subscriptions of these ids.
+///
+/// # Errors
+/// No memory: an allocation failed.
+pub fn ending_text(alloc: Global, id: JsUint, ids: &[String]) -> Result<String, AllocError>
+    // An Ok is the text of the definition.
+    ensures { IfOk result (λ text. string_bytes text ≡ ending_text id.value (texts_of ids.now)) }
 {
-    if names.len() == 0 {
-        return array_text(alloc, no_events(alloc)?);
-    }
-    strings_text(alloc, names)
-}
-
-// The module without events, as a list.
-fn no_events(alloc: Global) -> Result<Vec<Value<'static>>, AllocError>
-    ensures { IfOk result (λ values. items_view values.items ≡ items_of (map string (codes "session" ∷ []))) }
-{
-    let mut values = Vec::new(alloc);
-    values.push(Value::String(NO_EVENTS))?;
-    Ok(values)
+    let id = id.value;
+    let ids = strings_text(alloc, ids)?;
+    format!(in alloc;
+        "{{\"id\":{id},\"method\":\"session.unsubscribe\",\"params\":{{\"subscriptions\":{ids}}}}}"
+    )
 }
 
 // A property of this name that lists ids, behind a comma; nothing if there are none.

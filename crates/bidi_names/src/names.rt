@@ -1,9 +1,14 @@
 //! The names of events and modules that a test made known.
-ghost use Rattle.std.specs.Prelude.{◌≡◌, ◌==◌, get_or, map, string_bytes, eqb, true, false, MatchOption, IfOk};
+ghost use Rattle.std.specs.Prelude.{◌≡◌, ◌<◌, ◌==◌, bytes_eq, get_or, is_some, length, map, option_map, string_bytes, eqb, true, false, MatchOption, IfOk};
 ghost use Rattle.std.specs.List.{starts_with, list_all, list_any};
-ghost use Rattle.bidi_names.specs.Names.{is_in, is_or_in, makes_known, is_known, is_name, is_name_byte, words, can_be_known};
+ghost use Rattle.bidi_names.specs.Names.{is_in, is_or_in, makes_known, is_known, is_foreign, is_module, is_name, is_name_byte, words, can_be_known, event_named, new_words};
 
+use bidi_handles::Refusal;
+use bidi_methods::EventName;
+use bidi_sessions::all_named;
+use bidi_shape::Named;
 use std::alloc::{AllocError, Global};
+use std::slice::from_ref;
 
 /// How many bytes a name that is made known can have.
 const LONGEST_NAME: usize = 255;
@@ -80,6 +85,77 @@ fn is_name_byte(b: u8) -> bool
     ensures { result ≡ is_name_byte b }
 {
     matches!(b, b'a'..=b'z' | b'A'..=b'Z' | b'0'..=b'9' | b'.' | b':' | b'-' | b'_')
+}
+
+/// Those of these words that are not known yet, each once; `None` if there are more than `most`. Copies them.
+///
+/// Each word is compared with those that are known.
+///
+/// # Errors
+/// No memory: an allocation failed.
+pub fn new_words(
+    alloc: Global,
+    known: &[String],
+    words: &[String],
+    most: usize,
+) -> Result<Option<Vec<String>>, AllocError>
+    // An Ok has the words of the definition, in order, or None if there are more than so many.
+    ensures { IfOk result (λ found. MatchOption found (most < length (new_words (map string_bytes known.now) (map string_bytes words.now)))
+        (λ new. map string_bytes new.items ≡ new_words (map string_bytes known.now) (map string_bytes words.now))) }
+{
+    let mut new = Vec::new(alloc);
+    for word in words {
+        if is_one(known, word.as_str()) || is_one(&new, word.as_str()) {
+            continue;
+        }
+        if new.len() >= most {
+            return Ok(None);
+        }
+        new.push(String::from_str(alloc, word.as_str())?)?;
+    }
+    Ok(Some(new))
+}
+
+/// Whether a text is one of these.
+pub(crate) fn is_one(texts: &[String], text: &str) -> bool
+    ensures { result ≡ list_any (bytes_eq text.now) (map string_bytes texts.now) }
+{
+    is_same_as_one(texts, text)
+}
+
+// Whether a text is one of these.
+fn is_same_as_one(texts: &[String], text: &str) -> bool
+    ensures { result ≡ list_any (λ one. bytes_eq text.now (string_bytes one)) texts.now }
+{
+    texts.iter().any(|one| text == one.as_str())
+}
+
+/// Whether only the test has a name.
+pub(crate) fn is_foreign(alloc: Global, known: &[String], name: &String) -> Result<bool, AllocError>
+    ensures { IfOk result (λ is. is ≡ is_foreign (map string_bytes known.now) (string_bytes name.now)) }
+{
+    if !is_known(known, name.as_str()) {
+        return Ok(false);
+    }
+    match all_named(alloc, from_ref(name)) {
+        Ok(_) => Ok(false),
+        Err(Refusal::Code(_)) => Ok(true),
+        Err(Refusal::NoMemory) => Err(AllocError),
+    }
+}
+
+/// Whether the test may have further events in the module of this name.
+pub(crate) fn is_module(known: &[String], name: &str) -> bool
+    ensures { result ≡ is_module (map string_bytes known.now) name.now }
+{
+    is_known(known, name) && !is_event(name)
+}
+
+// Whether the profile has an event of this name.
+fn is_event(name: &str) -> bool
+    ensures { result ≡ is_some (event_named name.now) }
+{
+    EventName::named(name).is_some()
 }
 
 /// Whether a text is a name and known: by itself, by its module, or as all are. Takes no memory.

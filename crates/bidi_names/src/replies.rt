@@ -1,12 +1,11 @@
 //! What the replies of the remote end say of subscriptions, and the numbers in ids.
-ghost use Rattle.std.specs.Prelude.{◌≡◌, ◌<◌, ◌^◌, ◌++◌, ◌+◌, ℕ, List, true, length, map, bytes_eq, string_bytes, codes, option_map, option_to_list, slice_index, Some, IfOk, IfSome};
+ghost use Rattle.std.specs.Prelude.{◌≡◌, ◌<◌, ◌^◌, ◌++◌, ◌+◌, ℕ, List, length, map, string_bytes, codes, option_map, option_to_list, slice_index, Some, IfOk, IfSome};
 ghost use Rattle.std.specs.Str.{IsAscii};
 ghost use Rattle.bidi_sessions.specs.View.{sent_of};
 ghost use Rattle.bidi_handles.specs.Ids.{id_text};
-ghost use Rattle.bidi_contexts.specs.Users.{user_id};
-ghost use Rattle.bidi_names.specs.Replies.{last_text, succeeded, Gives, AreNumbers};
+ghost use Rattle.bidi_names.specs.Replies.{last_text, succeeded, Gives, AreNumbers, id_result};
 
-use bidi_handles::{IdKind, id_number};
+use bidi_handles::{IdKind, id_number, id_text};
 use bidi_sessions::Sent;
 use std::alloc::{AllocError, Global};
 
@@ -64,6 +63,20 @@ fn tail(text: &str, count: usize) -> Option<&str>
     Some(rest)
 }
 
+/// The result that gives the id of this subscription of a session, as JSON text.
+///
+/// # Errors
+/// No memory: an allocation failed.
+pub fn id_result(alloc: Global, session: u32, number: u64) -> Result<String, AllocError>
+    // An id shows numbers below 2^48.
+    requires { number < 2 ^ 48 }
+    // An Ok is the text of the definition.
+    ensures { IfOk result (λ text. string_bytes text ≡ id_result session number) }
+{
+    let id = id_text(alloc, IdKind::Subscription, session, number)?;
+    format!(in alloc; "{{\"subscription\":\"{id}\"}}")
+}
+
 /// Whether the last text that is sent is that of a success. Takes no memory.
 pub fn is_success(sent: &[Sent]) -> bool
     // The result is as the definition says.
@@ -105,46 +118,12 @@ pub fn subscription_numbers(
     Ok(numbers)
 }
 
-/// The numbers of the user contexts of these ids. An id of something else counts for nothing.
-///
-/// # Errors
-/// No memory: an allocation failed.
-pub fn user_numbers(alloc: Global, ids: &[String]) -> Result<Vec<u64>, AllocError>
-    // An Ok has a number below 2^48 exactly if its id is among these.
-    ensures { IfOk result (λ numbers. AreNumbers user_id (map string_bytes ids.now) numbers.items) }
-{
-    let mut numbers = Vec::new(alloc);
-    for id in ids {
-        let found = user_number(id.as_str());
-        push_found(&mut numbers, found)?;
-    }
-    Ok(numbers)
-}
-
-/// Adds the number that was found, if there is one.
-///
-/// # Errors
-/// No memory: an allocation failed.
-pub fn push_found(numbers: &mut Vec<u64>, found: Option<u64>) -> Result<(), AllocError>
-    // After an Ok, the number is the last one if one was found; the others are as they were.
+// Adds the number that was found, if there is one.
+fn push_found(numbers: &mut Vec<u64>, found: Option<u64>) -> Result<(), AllocError>
     ensures { IfOk result (λ _. numbers.new.items ≡ numbers.old.items ++ option_to_list found) }
 {
     match found {
         Some(number) => Ok(numbers.push(number)?),
         None => Ok(()),
-    }
-}
-
-// The number of the user context of this id.
-fn user_number(id: &str) -> Option<u64>
-    ensures some { IfSome result (λ n. (n < 2 ^ 48) × (bytes_eq id.now (user_id n) ≡ true)) }
-    ensures every { (n : ℕ) → n < 2 ^ 48 → bytes_eq id.now (user_id n) ≡ true → result ≡ Some n }
-{
-    if id == "default" {
-        return Some(0);
-    }
-    match id_number(id, IdKind::UserContext, 0) {
-        Some(number) if number > 0 => Some(number),
-        _ => None,
     }
 }

@@ -1,28 +1,34 @@
 //! Subscriptions to names that a test made known.
-ghost use Rattle.std.specs.Prelude.{◌≡◌, ◌<◌, ◌≤◌, ◌+◌, ◌==◌, ◌&&◌, MatchOption, not, length, map, filter, bytes_eq, string_bytes, vec_len, vec_capacity};
+ghost use Rattle.std.specs.Prelude.{◌≡◌, ◌<◌, ◌≤◌, ◌+◌, ◌^◌, ◌==◌, ◌&&◌, ◌||◌, MatchOption, IfOk, not, nat_lt, length, map, filter, bytes_eq, string_bytes, vec_len, vec_capacity};
 ghost use Rattle.std.specs.List.{list_any, list_all};
 ghost use Rattle.bidi_sessions.specs.Scope.{is_global, is_listed};
 ghost use Rattle.bidi_names.specs.Names.{is_or_in};
-ghost use Rattle.bidi_names.specs.Subscriptions.{holds_globally, names_in, is_too_many, stripped, dismissed, cancelled, of_active, named_of, is_within, holds_name};
+ghost use Rattle.bidi_handles.specs.Ids.{id_text};
+ghost use Rattle.bidi_handles.specs.declared.id.IdKind.TheVariants.{Subscription};
+ghost use Rattle.bidi_names.specs.Subscriptions.{holds_globally, names_in, is_too_many, without, stripped, has_any, dismissed, cancelled, of_active, named_of, has_name, is_within, holds_name, unlisted, is_id_of, other_ids};
 ghost use Rattle.bidi_names.specs.Sums.{total};
 ghost use Rattle.bidi_sessions.specs.SubscriptionView.{scope_of};
 
-use crate::names::is_or_in;
+use crate::names::{is_one, is_or_in};
 use bidi_contexts::Top;
+use bidi_handles::{IdKind, id_number};
 use bidi_sessions::Scope;
+use std::alloc::{AllocError, Global};
 
-/// How many names the subscriptions of a session can have.
+/// How many names of a test the subscriptions of a session can have.
 const MOST_NAMES: usize = 1_024;
 
-/// The names of a subscription that are known.
+/// What a subscription has that the remote end does not know.
 #[derive(Drop)]
 pub struct NamedSubscription {
     /// The number of its session.
     pub session: u32,
-    /// Its number in the session, which the remote end gave it.
+    /// Its number in the session.
     pub number: u64,
-    /// The names.
+    /// The names that only the test has.
     pub names: Vec<String>,
+    /// The modules of the profile in which the test may have further events.
+    pub modules: Vec<String>,
     /// Its scope.
     pub scope: Scope,
 }
@@ -30,12 +36,19 @@ pub struct NamedSubscription {
 impl NamedSubscription {
     // Whether it reaches an event of this name there.
     fn reaches(&self, session: u32, name: &str, top: Option<Top>) -> bool
-        ensures { result ≡ ((self.now.session == session) && (list_any (is_or_in name.now) (map string_bytes self.now.names.items) && is_within (scope_of self.now.scope) top)) }
+        ensures { result ≡ ((self.now.session == session) && (has_name (named_of self.now) name.now && is_within (scope_of self.now.scope) top)) }
     {
-        self.session == session && has_name(&self.names, name) && is_within(&self.scope, top)
+        self.session == session && self.has_name(name) && is_within(&self.scope, top)
     }
 
-    // How many names it has, if it is of this session.
+    // Whether it has a name, or a module of it.
+    fn has_name(&self, name: &str) -> bool
+        ensures { result ≡ has_name (named_of self.now) name.now }
+    {
+        has_name(&self.names, name) || has_name(&self.modules, name)
+    }
+
+    // How many names of a test it has, if it is of this session.
     fn names_in(&self, session: u32) -> usize
         ensures { result ≡ names_in session (named_of self.now) }
     {
@@ -46,11 +59,27 @@ impl NamedSubscription {
         }
     }
 
-    // Whether it has a name left.
-    fn has_names(&self) -> bool
-        ensures { result ≡ not (length (map string_bytes self.now.names.items) == 0) }
+    /// Whether it has a name or a module.
+    pub fn has_any(&self) -> bool
+        // False exactly if it has neither.
+        ensures { result ≡ has_any (named_of self.now) }
     {
-        self.names.len() != 0
+        !(self.names.len() == 0 && self.modules.len() == 0)
+    }
+
+    // Removes these names and these modules.
+    fn lose(&mut self, names: &[String], modules: &[String])
+        ensures { named_of self.new ≡ without (map string_bytes names.now) (map string_bytes modules.now) (named_of self.old) }
+    {
+        remove_names(&mut self.names, names);
+        remove_names(&mut self.modules, modules);
+    }
+
+    // Whether it is of this session, and has none of these numbers.
+    fn is_unlisted(&self, session: u32, numbers: &[u32]) -> bool
+        ensures { result ≡ ((self.now.session == session) && not (is_listed numbers.now self.now.number)) }
+    {
+        self.session == session && !has_number(numbers, self.number)
     }
 
     // Whether it is of this session and for all contexts.
@@ -71,7 +100,7 @@ impl NamedSubscription {
     fn has_globally(&self, session: u32, name: &str) -> bool
         ensures { result ≡ ((self.now.session == session) && (is_global (scope_of self.now.scope) && list_any (bytes_eq name.now) (map string_bytes self.now.names.items))) }
     {
-        self.session == session && is_all(&self.scope) && has_same(&self.names, name)
+        self.session == session && is_all(&self.scope) && is_one(&self.names, name)
     }
 }
 
@@ -83,20 +112,6 @@ fn is_all(scope: &Scope) -> bool
         Scope::All => true,
         Scope::Below(_) | Scope::Within(_) => false,
     }
-}
-
-// Whether the name itself is one of these.
-fn has_same(names: &[String], name: &str) -> bool
-    ensures { result ≡ list_any (bytes_eq name.now) (map string_bytes names.now) }
-{
-    is_one(names, name)
-}
-
-// Whether the name itself is one of these.
-fn is_one(names: &[String], name: &str) -> bool
-    ensures { result ≡ list_any (λ one. bytes_eq name.now (string_bytes one)) names.now }
-{
-    names.iter().any(|one| name == one.as_str())
 }
 
 // Whether the name, or its module, is one of these.
@@ -132,7 +147,14 @@ fn is_listed(numbers: &[u64], number: u64) -> bool
     numbers.iter().any(|n| *n == number)
 }
 
-/// Whether a session is subscribed to an event of this name there: to the name, or to its module. Takes no memory.
+// Whether the number is one of these.
+fn has_number(numbers: &[u32], number: u64) -> bool
+    ensures { result ≡ is_listed numbers.now number }
+{
+    numbers.iter().any(|n| u64::from(*n) == number)
+}
+
+/// Whether a session is subscribed to an event of this name there: to the name, or to a module of it. Takes no memory.
 pub fn holds_name(
     subscriptions: &[NamedSubscription],
     session: u32,
@@ -152,8 +174,7 @@ fn is_reached(
     name: &str,
     top: Option<Top>,
 ) -> bool
-    ensures { result ≡ list_any (λ n. (n.session == session)
-        && (list_any (is_or_in name.now) (map string_bytes n.names.items) && is_within (scope_of n.scope) top)) subscriptions.now }
+    ensures { result ≡ list_any (λ n. (n.session == session) && (has_name (named_of n) name.now && is_within (scope_of n.scope) top)) subscriptions.now }
 {
     subscriptions
         .iter()
@@ -214,22 +235,32 @@ fn has_global(subscriptions: &[NamedSubscription], session: u32, name: &str) -> 
         .any(|subscription| subscription.has_globally(session, name))
 }
 
-/// Removes these names from the subscriptions of a session for all contexts. Those with no name left go.
-pub fn dismiss(subscriptions: &mut Vec<NamedSubscription>, session: u32, names: &[String])
-    // The names are gone from those for all contexts, and what has no name left is gone; all others stay as they are.
-    ensures { map named_of subscriptions.new.items ≡ dismissed session (map string_bytes names.now) (map named_of subscriptions.old.items) }
+/// Removes these names and modules from the subscriptions of a session for all contexts. Those with nothing left go.
+pub fn dismiss(
+    subscriptions: &mut Vec<NamedSubscription>,
+    session: u32,
+    names: &[String],
+    modules: &[String],
+)
+    // They are gone from those for all contexts, and what has nothing left is gone; all others stay as they are.
+    ensures { map named_of subscriptions.new.items ≡ dismissed session (map string_bytes names.now) (map string_bytes modules.now) (map named_of subscriptions.old.items) }
 {
-    strip(subscriptions, session, names);
-    subscriptions.retain(|subscription| subscription.has_names());
+    strip(subscriptions, session, names, modules);
+    subscriptions.retain(|subscription| subscription.has_any());
 }
 
-// Removes these names from each subscription of a session for all contexts.
-fn strip(subscriptions: &mut [NamedSubscription], session: u32, names: &[String])
-    ensures { map named_of subscriptions.new ≡ map (stripped session (map string_bytes names.now)) (map named_of subscriptions.old) }
+// Removes these names and modules from each subscription of a session for all contexts.
+fn strip(
+    subscriptions: &mut [NamedSubscription],
+    session: u32,
+    names: &[String],
+    modules: &[String],
+)
+    ensures { map named_of subscriptions.new ≡ map (stripped session (map string_bytes names.now) (map string_bytes modules.now)) (map named_of subscriptions.old) }
 {
     for subscription in subscriptions.iter_mut() {
         if subscription.is_global_of(session) {
-            remove_names(&mut subscription.names, names);
+            subscription.lose(names, modules);
         }
     }
 }
@@ -238,7 +269,61 @@ fn strip(subscriptions: &mut [NamedSubscription], session: u32, names: &[String]
 fn remove_names(held: &mut Vec<String>, names: &[String])
     ensures { map string_bytes held.new.items ≡ filter (λ name. not (list_any (bytes_eq name) (map string_bytes names.now))) (map string_bytes held.old.items) }
 {
-    held.retain(|name| !has_same(names, name.as_str()));
+    held.retain(|name| !is_one(names, name.as_str()));
+}
+
+/// The numbers of the subscriptions of a session that have none of these numbers.
+///
+/// # Errors
+/// No memory: an allocation failed.
+pub fn unlisted_numbers(
+    alloc: Global,
+    subscriptions: &[NamedSubscription],
+    session: u32,
+    numbers: &[u32],
+) -> Result<Vec<u64>, AllocError>
+    // An Ok has the number of each of them, in order.
+    ensures { IfOk result (λ found. found.items ≡ map (λ n. n.number) (unlisted numbers.now session (map named_of subscriptions.now))) }
+{
+    let mut found = Vec::new(alloc);
+    for subscription in subscriptions {
+        if subscription.is_unlisted(session, numbers) {
+            found.push(subscription.number)?;
+        }
+    }
+    Ok(found)
+}
+
+/// Those of some ids that are ids of none of these subscriptions of a session.
+///
+/// # Errors
+/// No memory: an allocation failed.
+pub fn other_ids(
+    alloc: Global,
+    ids: &[String],
+    session: u32,
+    numbers: &[u64],
+) -> Result<Vec<String>, AllocError>
+    // An Ok has the ids of the definition, in order.
+    ensures { IfOk result (λ found. map string_bytes found.items ≡ other_ids numbers.now session (map string_bytes ids.now)) }
+{
+    let mut found = Vec::new(alloc);
+    for id in ids {
+        if !is_id_of(numbers, session, id.as_str()) {
+            found.push(String::from_str(alloc, id.as_str())?)?;
+        }
+    }
+    Ok(found)
+}
+
+// Whether an id is that of one of these subscriptions of a session.
+fn is_id_of(numbers: &[u64], session: u32, id: &str) -> bool
+    ensures { result ≡ is_id_of numbers.now session id.now }
+{
+    match id_number(id, IdKind::Subscription, session) {
+        Some(number) => is_listed(numbers, number),
+        None => false,
+    }
 }
 
 /// Removes the subscriptions of a session that have one of these numbers.

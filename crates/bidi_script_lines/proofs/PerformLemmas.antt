@@ -8,10 +8,10 @@ use Rattle.bidi_rows.specs.Filling.{Template}
 use Rattle.bidi_rows.specs.Reading.{IsAnswer, IsEventText}
 use Rattle.bidi_rows.specs.Templates.{AreTemplateTexts}
 use Rattle.bidi_scripted.specs.declared.fault.ScriptFault.{ScriptFault}
-use Rattle.bidi_scripted.specs.declared.fault.ScriptFault.TheVariants.{NoMemory, WornOut, BadRow, TooManyRows, TooMuchKept, BadName, TooManyNames, NotHeld}
-use Rattle.bidi_scripted.specs.Faults.{RefusesRow, RefusesFollower, RefusesNames, RefusesEvent, RefusesRelease, RefusesAnswer}
-use Rattle.bidi_names.specs.Names.{words, can_be_known}
-use Rattle.bidi_scripted.specs.Script.{Script, most_rows, most_known, can_keep, has_room_for_row, has_room_for_follower, has_room_for_names}
+use Rattle.bidi_scripted.specs.declared.fault.ScriptFault.TheVariants.{NoMemory, WornOut, BadRow, TooManyRows, TooMuchKept, BadName, TooManyNames, NoRow, NotHeld}
+use Rattle.bidi_scripted.specs.Faults.{RefusesRow, RefusesRemoval, RefusesFollower, RefusesNames, RefusesEvent, RefusesRelease, RefusesAnswer}
+use Rattle.bidi_names.specs.Names.{words, can_be_known, new_words}
+use Rattle.bidi_scripted.specs.Script.{Script, most_rows, most_known, can_keep, has_room_for_row, has_room_for_follower, has_room_for_names, has_method}
 use Rattle.bidi_scripted.specs.Script as script
 use Rattle.std.specs.Option.{option_map_or}
 use Rattle.bidi_sessions.specs.View.{sent_of}
@@ -98,14 +98,19 @@ no-follower text s f some why ts are = absurd why
 -- names do not become known
 pub no-names : (text : List ℕ) (s : Script) (f : ScriptFault) → HasReason f → RefusesNames text s f → can_know text s ≡ false
 no-names text s NoMemory some why = absurd some
-no-names text s BadName some why = first (list_all can_be_known (words text)) (has_room_for_names s (length (words text))) why
+no-names text s BadName some why = first (list_all can_be_known (words text)) (has_room_for_names s (words text)) why
 no-names text s TooManyNames some why =
-    unkept (list_all can_be_known (words text)) (has_room_for_names s (length (words text))) (over (length s.known + length (words text)) most_known why.1)
+    unkept (list_all can_be_known (words text)) (has_room_for_names s (words text)) (over (length s.known + length (new_words s.known (words text))) most_known why.1)
 no-names text s f some why = absurd why
 
 -- names that can become known
-pub are-names : (text : List ℕ) (s : Script) → list_all can_be_known (words text) ≡ true → has_room_for_names s (length (words text)) ≡ true → can_know text s ≡ true
+pub are-names : (text : List ℕ) (s : Script) → list_all can_be_known (words text) ≡ true → has_room_for_names s (words text) ≡ true → can_know text s ≡ true
 are-names text s names room = λ i. names i && room i
+
+-- no row is removed
+pub no-removal : (method : List ℕ) (s : Script) (f : ScriptFault) → HasReason f → RefusesRemoval method s f → has_method method s ≡ false
+no-removal method s NoRow some why = why
+no-removal method s f some why = absurd why
 
 -- an event is not sent
 pub no-event : (text : List ℕ) (f : ScriptFault) → HasReason f → RefusesEvent text f → (e : Event) → IsEventText text e → ⊥

@@ -5,8 +5,6 @@ use Rattle.std.specs.Option.{option_map_or}
 use Rattle.std.proofs.lemmas.Bool.Decides.{nat_tests}
 use Rattle.json.specs.Json.{Json, document}
 use Rattle.bidi_rows.specs.Reading.{object_at, string_at}
-use Rattle.bidi_rows.specs.Command.{Command}
-use Rattle.bidi_rows.specs.Rows.{Answer}
 use Rattle.bidi_play.specs.Lines.{written}
 use Rattle.bidi_sessions.specs.Step.{Step}
 use Rattle.bidi_sessions.specs.View.{sent_of}
@@ -16,7 +14,6 @@ use Rattle.bidi_remote.specs.declared.remote_end.RemoteFault.{RemoteFault}
 use Rattle.bidi_scripted.specs.Script.{Follower, no_script}
 use Rattle.bidi_scripted.specs.Sending.{following, followers_of, followed_by}
 use Rattle.bidi_scripted.specs.Becomes.{IsHandedOn}
-use Rattle.bidi_scripted.specs.Fate.{Fate, HandedOn, Answered, Held, Unheld, AsksNames}
 use Rattle.bidi_scripted.specs.declared.scripted_end.ScriptedEnd.{ScriptedEnd}
 use Rattle.bidi_scripted.specs.declared.scripted_end.Taken.{Taken}
 use Rattle.bidi_scripted.proofs.FateLemmas.{worn-ok, worn-err}
@@ -76,14 +73,3 @@ takes-step step old new t o on is = record {
 
 pub refuses-step : (step : Step) (old new : ScriptedEnd) (e : RemoteFault) → IsHandedOn step old.end new.end (Err e) → TakesStep step old new (Err e)
 refuses-step step old new e on = record { ok = tt; err = on.err; worn_out = λ h s. worn-err _ _ (on.worn_out h s) }
-
--- what holds of each fate holds of this one
-pub each-fate : (f : Fate) (P : Fate → Type 0) → (f ≡ HandedOn → P HandedOn)
-    → ((c : ℕ) (command : Command) (answer : Answer) → f ≡ Answered c command answer → P (Answered c command answer))
-    → ((c : ℕ) (command : Command) (text : List ℕ) → f ≡ Held c command text → P (Held c command text))
-    → ((c : ℕ) (command : Command) → f ≡ Unheld c command → P (Unheld c command)) → ((c : ℕ) (text : List ℕ) → f ≡ AsksNames c text → P (AsksNames c text)) → P f
-each-fate HandedOn P on answered held unheld names = on refl
-each-fate (Answered c command answer) P on answered held unheld names = answered c command answer refl
-each-fate (Held c command text) P on answered held unheld names = held c command text refl
-each-fate (Unheld c command) P on answered held unheld names = unheld c command refl
-each-fate (AsksNames c text) P on answered held unheld names = names c text refl

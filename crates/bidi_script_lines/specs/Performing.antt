@@ -1,5 +1,5 @@
 -- What each line of a scripted play brings about, in the words of the scripted end. Defined by this project.
-use Rattle.std.specs.Prelude.{◌≡◌, ◌⊎◌, ℕ, ◌≤◌, ◌%◌, ◌==◌, nat_le, Bool, true, false, ◌&&◌, ◌||◌, if◌then◌else◌, List, [], ◌∷◌, length, map, IfOk, OnErr, IsErrOf, ◌↔◌, Result, Some, None}
+use Rattle.std.specs.Prelude.{◌≡◌, ◌≢◌, ◌⊎◌, ℕ, ◌≤◌, ◌%◌, ◌==◌, nat_le, Bool, true, false, ◌&&◌, ◌||◌, if◌then◌else◌, List, [], ◌∷◌, length, map, IfOk, OnErr, IsErrOf, ◌↔◌, Result, Some, None}
 use Rattle.std.specs.List.{list_all}
 use Rattle.std.specs.Option.{option_map_or}
 use Rattle.bidi_sessions.specs.Step.{Step}
@@ -19,11 +19,12 @@ use Rattle.bidi_rows.specs.Templates.{AreTemplateTexts}
 use Rattle.bidi_sessions.specs.Step as steps
 use Rattle.bidi_scripted.specs.Script as script
 use Rattle.bidi_names.specs.Names.{words, can_be_known}
-use Rattle.bidi_scripted.specs.Script.{Script, no_script, has_room_for_row, has_room_for_follower, has_room_for_names, held_by, without_held, without_method, with_follower, with_names, with_row}
+use Rattle.bidi_scripted.specs.Script.{Script, no_script, has_room_for_row, has_room_for_follower, has_room_for_names, has_method, held_by, without_held, without_method, with_follower, with_names, with_row}
 use Rattle.bidi_scripted.specs.Sending.{emitted, release_sent}
 use Rattle.bidi_scripted.specs.View.{script_of}
 use Rattle.bidi_scripted.specs.Becomes.{Becomes}
 use Rattle.bidi_scripted.specs.Fate.{fate}
+use Rattle.bidi_scripted.specs.Kept.{NamesAsked}
 use Rattle.bidi_scripted.specs.declared.fault.ScriptFault.{ScriptFault}
 use Rattle.bidi_scripted.specs.declared.fault.ScriptFault.TheVariants as faults
 use Rattle.bidi_scripted.specs.declared.scripted_end.ScriptedEnd.{ScriptedEnd}
@@ -91,14 +92,19 @@ OnOpen c h old new o P = ((is_open (deeds h) c ≡ false) × HasNoEffect old new
 abbrev pub taken_outcome : Taken → Outcome
 taken_outcome t = option_map_or Held t.held (if t.is_of_machine then OfMachine (map sent_of t.sent.items) else OfTest (map sent_of t.sent.items))
 
--- The held command of this number is released: if its connection is gone it is lost, and otherwise it goes on as it came if no names are known.
--- It is held no longer.
+-- The held command of this number is released: if its connection is gone it is lost, and otherwise it goes on as it came, or, while names are
+-- known, as a message that may ask for them. It is held no longer, and nothing else of the script changes but what comes of names.
 pub record Releases (n : ℕ) (h : List Input) (old new : ScriptedEnd) (o : Outcome) : Type 0 where
   pub held : script.Held
   pub was_held : held_by n (script_of old.script) ≡ Some held
-  pub lost : held.is_lost ≡ true → (o ≡ OfTest (Lost held.conn ∷ [])) × (new.end ≡ old.end)
+  pub lost : held.is_lost ≡ true
+      → (o ≡ OfTest (Lost held.conn ∷ [])) × (new.end ≡ old.end) × (script_of new.script ≡ without_held n (script_of old.script))
   pub goes_on : held.is_lost ≡ false → (script_of old.script).known ≡ []
       → (i : Input) × IsHeardAs (steps.Text held.conn held.text) i × (o ≡ OfMachine (out h i)) × StandsFor new.end (i ∷ h)
+      × (script_of new.script ≡ without_held n (script_of old.script))
+  pub named : held.is_lost ≡ false → (script_of old.script).known ≢ []
+      → (t : Taken) × (mid : Script) × NamesAsked held.conn held.text h old.end (script_of old.script) new.end mid t × (o ≡ taken_outcome t)
+      × (script_of new.script ≡ without_held n mid)
   pub released : (script_of new.script).held ≡ (without_held n (script_of old.script)).held
 
 -- The held command of this number is answered by this text, or it is lost. It is held no longer.
@@ -111,6 +117,11 @@ pub record ReleasesWith (n : ℕ) (text : List ℕ) (h : List Input) (old new : 
   pub released : script_of new.script ≡ without_held n (script_of old.script)
   pub end : new.end ≡ old.end
 
+-- all rows of a method, which there are, are removed, and nothing is sent
+abbrev pub Removes : List ℕ → ScriptedEnd → ScriptedEnd → Outcome → Type 0
+Removes method old new o = (has_method method (script_of old.script) ≡ true) × (o ≡ OfTest []) × (new.end ≡ old.end)
+    × (script_of new.script ≡ without_method method (script_of old.script))
+
 -- these events follow those of the method, for which there was room, and nothing is sent
 abbrev pub Follows : List ℕ → List ℕ → ScriptedEnd → ScriptedEnd → Outcome → Type 0
 Follows method events old new o = (ts : List Template) × AreTemplateTexts events ts
@@ -119,7 +130,7 @@ Follows method events old new o = (ts : List Template) × AreTemplateTexts event
 
 -- whether the words of a text can become known: each is a name or `*`, and there is room for so many
 abbrev pub can_know : List ℕ → Script → Bool
-can_know names script = list_all can_be_known (words names) && has_room_for_names script (length (words names))
+can_know names script = list_all can_be_known (words names) && has_room_for_names script (words names)
 
 -- the words of a text, which can become known, are known, and nothing is sent
 abbrev pub KnowsMore : List ℕ → ScriptedEnd → ScriptedEnd → Outcome → Type 0
@@ -135,9 +146,8 @@ Brings (line.Plain step) h old new o = (t : Taken)
 Brings (line.Answer text) h old new o = AddsRow (IsAnsweringRow text) (length text) old new o ⊎ AddsNoRow (IsAnsweringRow text) (length text) old new o
 -- a row that holds is added, or there is none or no room for it
 Brings (line.Hold text) h old new o = AddsRow (IsHoldingRow text) (length text) old new o ⊎ AddsNoRow (IsHoldingRow text) (length text) old new o
--- all rows of a method are removed
-Brings (line.Unanswer method) h old new o =
-    (o ≡ OfTest []) × (new.end ≡ old.end) × (script_of new.script ≡ without_method method (script_of old.script))
+-- all rows of a method are removed, or there is none
+Brings (line.Unanswer method) h old new o = Removes method old new o ⊎ ((has_method method (script_of old.script) ≡ false) × HasNoEffect old new o)
 -- an event goes to the sessions that it reaches, or the text is JSON for none
 Brings (line.Emit text) h old new o =
     ((e : Event) × IsEventText text e × (o ≡ OfTest (emitted (deeds h) (script_of old.script).named e)) × IsUnchanged old new)

@@ -62,10 +62,7 @@ pub fn perform(
         ScriptLine::Hold(row) => hold(alloc, end, row.as_str()),
         ScriptLine::Release(number) => release(alloc, end, number),
         ScriptLine::ReleaseWith(number, row) => release_with(alloc, end, number, row.as_str()),
-        ScriptLine::Unanswer(method) => {
-            end.unanswer(method.as_str());
-            Ok(Outcome::Sent(Vec::new(alloc)))
-        }
+        ScriptLine::Unanswer(method) => unanswer(alloc, end, method.as_str()),
         ScriptLine::Emit(event) => emit(alloc, end, event.as_str()),
         ScriptLine::On(method, events) => follow(alloc, end, method.as_str(), events.as_str()),
         ScriptLine::Names(names) => know(alloc, end, names.as_str()),
@@ -140,6 +137,18 @@ fn hold(alloc: Global, end: &mut ScriptedEnd, row: &str) -> Result<Outcome, Remo
     ensures worn_out { IsErrOf result RemoteFault.WornOut → ⊥ }
 {
     match end.hold(row) {
+        Ok(()) => Ok(Outcome::Sent(Vec::new(alloc))),
+        Err(fault) => refused(alloc, fault),
+    }
+}
+
+// Removes the rows of a method.
+fn unanswer(alloc: Global, end: &mut ScriptedEnd, method: &str) -> Result<Outcome, RemoteFault>
+    ensures brings { (h : List Input) → IfOk result (λ o. Brings (lines.Unanswer method.now) h end.old end.new (outcome_of o)) }
+    ensures err { OnErr result (IsUnchanged end.old end.new) }
+    ensures worn_out { IsErrOf result RemoteFault.WornOut → ⊥ }
+{
+    match end.unanswer(method) {
         Ok(()) => Ok(Outcome::Sent(Vec::new(alloc))),
         Err(fault) => refused(alloc, fault),
     }

@@ -1,5 +1,5 @@
 -- What becomes of a message, by what was found for it.
-use Rattle.std.proofs.Common.{◌≡◌, ◌∙◌, ◌≤◌, ℕ, Bool, true, false, true≢false, ◌&&◌, inl, List, [], ◌∷◌, length, map, Option, Some, None, Result, Ok, Err, refl, sym, ap, subst, arith}
+use Rattle.std.proofs.Common.{◌≡◌, ◌∙◌, ◌≤◌, ℕ, Bool, true, false, true≢false, ◌&&◌, ◌⊎◌, inl, inr, List, [], ◌∷◌, length, map, Option, Some, None, Result, Ok, Err, refl, sym, ap, subst, arith}
 use Rattle.std.specs.Prelude.{◌==◌, find, if◌then◌else◌, IfOk, OnOk, OnErr, IsErrOf, ◌↔◌, unwrap_or}
 use Rattle.std.specs.List.{position}
 use Rattle.std.proofs.lemmas.Bool.Decides.{nat_tests}
@@ -21,10 +21,9 @@ use Rattle.bidi_messages.specs.Message.{error_text}
 use Rattle.bidi_remote.specs.declared.remote_end.RemoteEnd.{RemoteEnd}
 use Rattle.bidi_scripted.specs.declared.scripted_end.Taken.{Taken}
 use Rattle.bidi_scripted.specs.Sending.{answer_sent}
-use Rattle.bidi_names.specs.Subscriptions.{Named}
 use Rattle.bidi_scripted.specs.Script.{Script, no_script, is_plain, has_room_for_command, with_use, with_held}
-use Rattle.bidi_scripted.specs.Fate.{Fate, HandedOn, Answered, Held, Unheld, AsksNames, asks_names, by_action, by_row, by_command, fate, after_step}
-use Rattle.bidi_scripted.specs.Becomes.{Becomes, IsHandedOn, IsHeard, IsTaken, IsFound, found_names, TakesPart, sent_by}
+use Rattle.bidi_scripted.specs.Fate.{Fate, HandedOn, Answered, Held, Unheld, AsksNames, asks_names, is_json, by_action, by_row, by_command, fate, after_step}
+use Rattle.bidi_scripted.specs.Becomes.{Becomes, IsHandedOn, IsHeard, IsTaken, IsFound, found_names, sent_by}
 use Rattle.bidi_rows.specs.declared.row.Row as declared_row
 use Rattle.bidi_sessions.specs.declared.step.Sent as declared_sent
 use Rattle.bidi_rows.specs.View.{row_of}
@@ -63,7 +62,7 @@ either_way false f e = refl
 pub fate-plain : (past : List Deed) (script : Script) (c : ℕ) (text : List ℕ) → is_plain script ≡ true → fate past script (steps.Text c text) ≡ HandedOn
 fate-plain past script c text plain =
     let parts = both (length script.rows == 0) (length script.known == 0) plain in
-    either_way (is_open past c) _ (plain_command script c text (command_of text) parts.0 parts.1)
+    either_way (is_open past c && is_json text) _ (plain_command script c text (command_of text) parts.0 parts.1)
 
 -- and so it is on a connection that is not open
 pub fate-closed : (past : List Deed) (script : Script) (c : ℕ) (text : List ℕ) → is_open past c ≡ false → fate past script (steps.Text c text) ≡ HandedOn
@@ -76,24 +75,31 @@ nothing_command script c text None nothing = refl
 nothing_command script c text (Some command) nothing =
     let it = nothing command refl in ap (by_row script c text command) it.0 ∙ plain_row script c text command it.1
 
--- a message for which nothing was found is handed on
-pub fate-nothing : (past : List Deed) (script : Script) (c : ℕ) (text : List ℕ)
-    → ((command : Command) → command_of text ≡ Some command → (find (matches command) script.rows ≡ None) × (asks_names script.known command.method ≡ false))
+not-json : (past : List Deed) (script : Script) (c : ℕ) (text : List ℕ) (b : Bool) → is_open past c ≡ b → is_json text ≡ false
     → fate past script (steps.Text c text) ≡ HandedOn
-fate-nothing past script c text nothing = either_way (is_open past c) _ (nothing_command script c text (command_of text) nothing)
+not-json past script c text true opened bad = rw (opened, bad) refl
+not-json past script c text false closed bad = rw closed refl
+
+-- a message for which nothing was found, or that is no JSON, is handed on
+pub fate-nothing : (past : List Deed) (script : Script) (c : ℕ) (text : List ℕ)
+    → (((command : Command) → command_of text ≡ Some command → (find (matches command) script.rows ≡ None) × (asks_names script.known command.method ≡ false))
+    ⊎ (is_json text ≡ false)) → fate past script (steps.Text c text) ≡ HandedOn
+fate-nothing past script c text (inl nothing) = either_way (is_open past c && is_json text) _ (nothing_command script c text (command_of text) nothing)
+fate-nothing past script c text (inr bad) = not-json past script c text (is_open past c) refl bad
 
 -- ---- a message for which something was found, on an open connection
 
 -- the command that it is, and what becomes of it
-pub fate-command : (past : List Deed) (script : Script) (c : ℕ) (text : List ℕ) (command : Command) → is_open past c ≡ true → command_of text ≡ Some command
-    → fate past script (steps.Text c text) ≡ by_row script c text command (find (matches command) script.rows)
-fate-command past script c text command opened is = rw (opened, is) refl
+pub fate-command : (past : List Deed) (script : Script) (c : ℕ) (text : List ℕ) (command : Command) → is_open past c ≡ true → is_json text ≡ true
+    → command_of text ≡ Some command → fate past script (steps.Text c text) ≡ by_row script c text command (find (matches command) script.rows)
+fate-command past script c text command opened json is = rw (opened, json, is) refl
 
 -- a command that may ask for names
-pub fate-names : (past : List Deed) (script : Script) (c : ℕ) (text : List ℕ) (command : Command) → is_open past c ≡ true → command_of text ≡ Some command
-    → find (matches command) script.rows ≡ None → asks_names script.known command.method ≡ true → fate past script (steps.Text c text) ≡ AsksNames c text
-fate-names past script c text command opened is none asks =
-    fate-command past script c text command opened is ∙ (ap (by_row script c text command) none ∙ rw asks refl)
+pub fate-names : (past : List Deed) (script : Script) (c : ℕ) (text : List ℕ) (command : Command) → is_open past c ≡ true → is_json text ≡ true
+    → command_of text ≡ Some command → find (matches command) script.rows ≡ None → asks_names script.known command.method ≡ true
+    → fate past script (steps.Text c text) ≡ AsksNames c text
+fate-names past script c text command opened json is none asks =
+    fate-command past script c text command opened json is ∙ (ap (by_row script c text command) none ∙ rw asks refl)
 
 -- ---- which error came
 
@@ -147,33 +153,6 @@ with_err (Err e) A B b a = (b, a)
 pub err_with : {T E : Type 0} (r : Result T E) (A B : Type 0) → OnErr r A → B → OnErr r (A × B)
 err_with (Ok x) A B a b = tt
 err_with (Err e) A B a b = (a, b)
-
--- ---- a message that asks for names
-
--- a message that was handed on, as it came or in part
-pub part-handed : (c : ℕ) (text : List ℕ) (old new : RemoteEnd) (script after : Script) (r : Result Taken RemoteFault) (h : List Input) → StandsFor old h
-    → IsHandedOn (steps.Text c text) old new r → after ≡ script → IfOk r (TakesPart c text h script new after)
-part-handed c text old new script after (Err e) h s on same = tt
-part-handed c text old new script after (Ok t) h s on same = record {
-  takes = inl (on.ok.0, on.ok.1, (on.ok.4 h s).0, on.ok.3, (on.ok.4 h s).2);
-  held = on.ok.2;
-  kept = (script.named, same);
-}
-
--- the same, where the subscriptions to names change afterwards
-pub part-changed : (c : ℕ) (text : List ℕ) (old new : RemoteEnd) (script mid after : Script) (t : Taken) (h : List Input) → StandsFor old h
-    → IsHandedOn (steps.Text c text) old new (Ok t) → mid ≡ script → ((named : List Named) × (after ≡ record mid { named = named }))
-    → TakesPart c text h script new after t
-part-changed c text old new script mid after t h s on same changed = record {
-  takes = inl (on.ok.0, on.ok.1, (on.ok.4 h s).0, on.ok.3, (on.ok.4 h s).2);
-  held = on.ok.2;
-  kept = (changed.0, changed.1 ∙ ap {A = Script} (λ x. record x { named = changed.0 }) same);
-}
-
--- the same of a text that is equal
-pub part-as : (c : ℕ) (a b : List ℕ) (h : List Input) (script : Script) (new : RemoteEnd) (after : Script) (r : Result Taken RemoteFault) → a ≡ b
-    → IfOk r (TakesPart c b h script new after) → IfOk r (TakesPart c a h script new after)
-part-as c a b h script new after r e p = subst (λ x. IfOk r (TakesPart c x h script new after)) (sym e) p
 
 -- ---- a step that was taken
 
@@ -258,6 +237,11 @@ row-holds script c text command id past o r is by = of r.action refl
     of (Answers answer) act = absurd (none-some (by ∙ ap (sent_by past script.named c id) act))
     of Holds act = ap (by_row script c text command) is ∙ ap (by_action script c text command) act
 
+-- what is anyway so, after a success
+pub anyhow : {T E A : Type 0} (r : Result T E) → A → OnOk r A
+anyhow (Ok t) a = a
+anyhow (Err e) a = tt
+
 -- what is anyway so
 pub anyway : {T E A : Type 0} (r : Result T E) → A → OnErr r A
 anyway (Ok t) a = tt
@@ -271,6 +255,11 @@ on-ok (Err e) f a = tt
 pub if-ok : {T E : Type 0} {P Q : T → Type 0} (r : Result T E) → ((t : T) → P t → Q t) → IfOk r P → IfOk r Q
 if-ok (Ok t) f p = f t p
 if-ok (Err e) f p = tt
+
+-- what follows from a success, and from what else holds after it
+pub if-ok-on : {T E X : Type 0} {P Q : T → Type 0} (r : Result T E) → ((t : T) → P t → X → Q t) → IfOk r P → OnOk r X → IfOk r Q
+if-ok-on (Ok t) f p x = f t p x
+if-ok-on (Err e) f p x = tt
 
 -- ---- a command that is held
 

@@ -27,23 +27,9 @@ use Rattle.bidi_scripted.specs.declared.finding.Looked.TheVariants as looked
 use Rattle.bidi_sessions.specs.declared.step.Sent as declared_step
 use Rattle.bidi_names.specs.Subscriptions.{Named}
 use Rattle.bidi_scripted.specs.Script.{Script, no_script, with_use, with_held}
-use Rattle.bidi_remote.specs.Machine.Connections.{attachment_of}
-use Rattle.bidi_remote.specs.Machine.Asking.{session_in}
-use Rattle.bidi_scripted.specs.Kept.{text_taken, IsKept}
-use Rattle.bidi_scripted.specs.Fate.{Fate, HandedOn, Answered, Held, Unheld, AsksNames, asks_names, fate, after_step}
+use Rattle.bidi_scripted.specs.Kept.{NamesAsked}
+use Rattle.bidi_scripted.specs.Fate.{Fate, HandedOn, Answered, Held, Unheld, AsksNames, asks_names, is_json, fate, after_step}
 use Rattle.bidi_scripted.specs.Sending.{answer_sent}
-
--- The machine takes this text as a message on the connection, or the message is refused with `unknown error`.
-abbrev pub IsPartTaken : ℕ → List ℕ → List Input → RemoteEnd → Taken → Type 0
-IsPartTaken c text h new t =
-    ((i : Input) × IsHeardAs (steps.Text c text) i × (map sent_of t.sent.items ≡ out h i) × (t.is_of_machine ≡ true) × StandsFor new (i ∷ h))
-    ⊎ ((id : ℕ) × (map sent_of t.sent.items ≡ Text c (error_text (Some id) UnknownError) ∷ []) × (t.is_of_machine ≡ false) × StandsFor new h)
-
--- This text is taken of a message that asks for names; of the script, only the subscriptions to names change.
-pub record TakesPart (c : ℕ) (text : List ℕ) (h : List Input) (script : Script) (new : RemoteEnd) (after : Script) (t : Taken) : Type 0 where
-  pub takes : IsPartTaken c text h new t
-  pub held : t.held ≡ None
-  pub kept : (named : List Named) × (after ≡ record script { named = named })
 
 -- The step is handed on to the remote end as it came: what the machine sends for it is sent, and each string that is sent reads back. After an
 -- error the remote end stands for the histories that it stood for before, and `WornOut` comes exactly if it has accepted `most_steps` steps.
@@ -65,9 +51,7 @@ Becomes (Held c command text) h step old script new after t =
     (t.sent.items ≡ []) × (t.held ≡ Some script.next) × (t.is_of_machine ≡ false) × (new ≡ old) × (after ≡ with_held c command.id text (with_use command script))
 Becomes (Unheld c command) h step old script new after t =
     (map sent_of t.sent.items ≡ Text c (error_text (Some command.id) UnknownError) ∷ []) × (t.held ≡ None) × (t.is_of_machine ≡ false) × (new ≡ old) × (after ≡ script)
-Becomes (AsksNames c text) h step old script new after t =
-    TakesPart c (text_taken (deeds h) script c text) h script new after t
-    × IsKept c (deeds h) (session_in (attachment_of (deeds h) c)) script.known text script.named after.named t
+Becomes (AsksNames c text) h step old script new after t = (t.held ≡ None) × NamesAsked c text h old script new after t
 
 -- The step was taken: with an empty script it was handed on and the script stays empty; it brought about what its fate means; and after an
 -- error the script is as it was, and the remote end stands for the histories that it stood for before. `WornOut` comes only if the remote end
@@ -105,7 +89,7 @@ IsHeard c s old new sent =
     (i : Input) × IsHeardAs (steps.Text c s) i
     × ((h : List Input) → StandsFor old h → (map sent_of sent ≡ out h i) × AllReadBack (map sent_of sent) × StandsFor new (i ∷ h))
 
--- What came of looking at a text is right: what was found for it; or nothing was, and the remote end heard it.
+-- What came of looking at a text is right: what was found for it, which is JSON; or nothing was, or it is no JSON, and the remote end heard it.
 abbrev pub IsLooked : List declared_row.Row → List (List ℕ) → ℕ → List ℕ → RemoteEnd → RemoteEnd → Looked → Type 0
-IsLooked rows known c s old new (looked.Found f) = IsFound (Some f) rows known s × (new ≡ old)
-IsLooked rows known c s old new (looked.Heard sent) = IsFound None rows known s × IsHeard c s old new sent.items
+IsLooked rows known c s old new (looked.Found f) = IsFound (Some f) rows known s × (is_json s ≡ true) × (new ≡ old)
+IsLooked rows known c s old new (looked.Heard sent) = (IsFound None rows known s ⊎ (is_json s ≡ false)) × IsHeard c s old new sent.items

@@ -1,5 +1,6 @@
 -- What becomes of each step: it is handed on to the machine, or a row answers or holds the command. This project's own.
-use Rattle.std.specs.Prelude.{ℕ, ◌==◌, Bool, not, ◌&&◌, ◌||◌, List, length, find, if◌then◌else◌, codes, bytes_eq, Option, Some, None}
+use Rattle.std.specs.Prelude.{ℕ, ◌==◌, Bool, not, ◌&&◌, ◌||◌, List, length, find, if◌then◌else◌, codes, bytes_eq, is_some, Option, Some, None}
+use Rattle.bidi_messages.specs.Verdict.{command_tree}
 use Rattle.bidi_sessions.specs.Step.{Step, Text, Open}
 use Rattle.bidi_rows.specs.Command.{Command, command_of}
 use Rattle.bidi_rows.specs.Rows.{Row, Answer, Action, Answers, Holds, matches}
@@ -35,9 +36,13 @@ abbrev pub by_command : Script → ℕ → List ℕ → Option Command → Fate
 by_command script c text None = HandedOn
 by_command script c text (Some command) = by_row script c text command (find (matches command) script.rows)
 
--- what becomes of a step: rows are asked of messages on open connections
+-- whether a message is JSON of at most 1,048,576 bytes
+abbrev pub is_json : List ℕ → Bool
+is_json text = is_some (command_tree text)
+
+-- what becomes of a step: rows are asked of messages on open connections that are JSON
 abbrev pub fate : List Deed → Script → Step → Fate
-fate past script (Text c text) = if is_open past c then by_command script c text (command_of text) else HandedOn
+fate past script (Text c text) = if is_open past c && is_json text then by_command script c text (command_of text) else HandedOn
 fate past script step = HandedOn
 
 -- the script after a step that was handed on

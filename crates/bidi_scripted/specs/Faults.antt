@@ -11,8 +11,8 @@ use Rattle.bidi_remote.specs.declared.remote_end.RemoteFault.{RemoteFault}
 use Rattle.bidi_remote.specs.declared.remote_end.RemoteFault.TheVariants as remote
 use Rattle.bidi_scripted.specs.declared.fault.ScriptFault.{ScriptFault}
 use Rattle.bidi_scripted.specs.declared.fault.ScriptFault.TheVariants as script
-use Rattle.bidi_names.specs.Names.{words, can_be_known}
-use Rattle.bidi_scripted.specs.Script.{Script, Held, most_rows, most_known, can_keep}
+use Rattle.bidi_names.specs.Names.{words, can_be_known, new_words}
+use Rattle.bidi_scripted.specs.Script.{Script, Held, most_rows, most_known, can_keep, has_method}
 
 -- the fault of a scripted end if its remote end has this one
 abbrev pub fault_of : RemoteFault → ScriptFault
@@ -35,6 +35,11 @@ RefusesRow IsRow s bytes script.TooManyRows = ((r : Row) × IsRow r) × (most_ro
 RefusesRow IsRow s bytes script.TooMuchKept = ((r : Row) × IsRow r) × (length s.rows < most_rows) × (can_keep s bytes ≡ false)
 RefusesRow IsRow s bytes fault = ⊥
 
+-- Why no row of a method is removed: there is none.
+abbrev pub RefusesRemoval : List ℕ → Script → ScriptFault → Type 0
+RefusesRemoval method s script.NoRow = has_method method s ≡ false
+RefusesRemoval method s fault = ⊥
+
 -- Why the events of a text do not follow others: it is JSON for no events; or it is, but events follow those of `most_rows` methods; or of fewer,
 -- but the script cannot keep so many bytes more.
 abbrev pub RefusesFollower : List ℕ → Script → ScriptFault → Type 0
@@ -49,7 +54,8 @@ RefusesFollower text s fault = ⊥
 abbrev pub RefusesNames : List ℕ → Script → ScriptFault → Type 0
 RefusesNames text s script.NoMemory = Unit {0}
 RefusesNames text s script.BadName = list_all can_be_known (words text) ≡ false
-RefusesNames text s script.TooManyNames = (list_all can_be_known (words text) ≡ true) × (most_known < length s.known + length (words text))
+RefusesNames text s script.TooManyNames =
+    (list_all can_be_known (words text) ≡ true) × (most_known < length s.known + length (new_words s.known (words text)))
 RefusesNames text s fault = ⊥
 
 -- Why an event is not sent: its text is JSON for none, or the remote end is worn out.

@@ -2,6 +2,8 @@
 use Rattle.std.specs.Prelude.{ℕ, suc, ◌+◌, ◌-◌, ◌==◌, nat_lt, nat_le, Bool, true, false, not, ◌&&◌, if◌then◌else◌, List, [], ◌∷◌, ◌++◌, length, map, filter, find, bytes_eq, Option, Some, None}
 use Rattle.bidi_rows.specs.Command.{Command}
 use Rattle.bidi_rows.specs.Filling.{Template}
+use Rattle.std.specs.List.{list_any}
+use Rattle.bidi_names.specs.Names.{new_words}
 use Rattle.bidi_names.specs.Sums.{total}
 use Rattle.bidi_names.specs.Subscriptions.{Named}
 use Rattle.bidi_rows.specs.Rows.{Row, matches}
@@ -22,7 +24,8 @@ pub record Follower : Type 0 where
   pub bytes : ℕ
 
 -- A script has rows, the newest first, the commands that are held, in order of number, the number of the next one, the events that follow
--- others, the names that are known, and the subscriptions to them.
+-- others, the names that are known, what subscriptions have that the machine does not know, and how many subscriptions were made that only the
+-- test keeps.
 pub record Script : Type 0 where
   pub rows : List Row
   pub held : List Held
@@ -30,10 +33,11 @@ pub record Script : Type 0 where
   pub followers : List Follower
   pub known : List (List ℕ)
   pub named : List Named
+  pub made : ℕ
 
 -- the script at the start
 abbrev pub no_script : Script
-no_script = record { rows = []; held = []; next = 1; followers = []; known = []; named = [] }
+no_script = record { rows = []; held = []; next = 1; followers = []; known = []; named = []; made = 0 }
 
 -- whether no row can answer a command, and no name is known
 abbrev pub is_plain : Script → Bool
@@ -49,7 +53,7 @@ most_rows = 1024
 abbrev pub most_held : ℕ
 most_held = 1024
 
--- how many commands can ever be held
+-- how many commands can ever be held, and how many subscriptions can be made that only the test keeps
 abbrev pub most_numbers : ℕ
 most_numbers = 1000000000
 
@@ -77,9 +81,9 @@ has_room_for_row script bytes = nat_lt (length script.rows) most_rows && can_kee
 abbrev pub has_room_for_follower : Script → ℕ → Bool
 has_room_for_follower script bytes = nat_lt (length script.followers) most_rows && can_keep script bytes
 
--- whether so many names more can be known
-abbrev pub has_room_for_names : Script → ℕ → Bool
-has_room_for_names script more = nat_le (length script.known + more) most_known
+-- whether these words can be known, too
+abbrev pub has_room_for_names : Script → List (List ℕ) → Bool
+has_room_for_names script words = nat_le (length script.known + length (new_words script.known words)) most_known
 
 -- whether one more command of so many bytes can be held
 abbrev pub has_room_for_command : Script → ℕ → Bool
@@ -104,6 +108,10 @@ with_row row script = record script { rows = row ∷ script.rows }
 -- the script after a row was used for the command
 abbrev pub with_use : Command → Script → Script
 with_use command script = record script { rows = used command script.rows }
+
+-- whether a row is for commands of a method
+abbrev pub has_method : List ℕ → Script → Bool
+has_method method script = list_any (λ row. bytes_eq row.method method) script.rows
 
 -- the script without the rows of a method
 abbrev pub without_method : List ℕ → Script → Script
@@ -141,6 +149,6 @@ abbrev pub with_follower : Follower → Script → Script
 with_follower follower script =
     record script { followers = filter (λ f. not (bytes_eq f.method follower.method)) script.followers ++ follower ∷ [] }
 
--- the script with more names that are known
+-- the script with more words that are known, each once
 abbrev pub with_names : List (List ℕ) → Script → Script
-with_names names script = record script { known = script.known ++ names }
+with_names words script = record script { known = script.known ++ new_words script.known words }

@@ -1,9 +1,7 @@
 -- What is sent for a command that a row answers, and for an event that a test sends. After WebDriver BiDi, "Protocol".
 use Rattle.std.specs.Prelude.{ℕ, Bool, not, ◌||◌, if◌then◌else◌, List, [], ◌∷◌, ◌++◌, map, filter, flat_map, find, codes, bytes_eq, Option, Some, None, option_and_then}
 use Rattle.std.specs.Option.{option_map_or}
-use Rattle.bidi_shape.specs.WordLaws.{value_named}
 use Rattle.bidi_methods.specs.declared.event_data.EventName.{EventName}
-use Rattle.bidi_methods.specs.EventName.{event_words}
 use Rattle.bidi_contexts.specs.declared.occurrence.Top.{Top}
 use Rattle.bidi_rows.specs.Rows.{Event, Answer, reply_text}
 use Rattle.bidi_remote.specs.Machine.History.{Deed, acts}
@@ -14,12 +12,9 @@ use Rattle.bidi_remote.specs.Machine.Sent.{Sent, Text, Lost}
 use Rattle.json.specs.Json.{Json, document}
 use Rattle.bidi_rows.specs.Filling.{filling_of, filled_text}
 use Rattle.bidi_rows.specs.Reading.{string_at, object_at}
+use Rattle.bidi_names.specs.Names.{event_named}
 use Rattle.bidi_names.specs.Subscriptions.{Named, holds_name}
 use Rattle.bidi_scripted.specs.Script.{Held, Follower}
-
--- the event of the profile that has this name, if there is one
-abbrev pub event_named : List ℕ → Option EventName
-event_named name = value_named event_words.first event_words.rest name
 
 -- the top-level context in whose tree an event happens, if its params name a live context
 abbrev pub top_of_event : List Deed → Event → Option Top

@@ -25,4 +25,5 @@ script_of s = record {
   followers = map follower_of s.followers.items;
   known = map string_bytes s.known.items;
   named = map named_of s.named.items;
+  made = s.made;
 }

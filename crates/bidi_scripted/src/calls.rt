@@ -14,13 +14,10 @@ ghost use Rattle.bidi_remote.specs.Machine.Outcome.{deeds};
 ghost use Rattle.bidi_remote.specs.Machine.Sent.{out, Lost};
 ghost use Rattle.bidi_remote.specs.State.Stands.{StandsFor};
 ghost use Rattle.bidi_scripted.specs.Script as script;
-ghost use Rattle.bidi_scripted.specs.Script.{most_rows, can_keep, has_room_for_row, has_room_for_follower, has_room_for_names, with_row, with_follower, with_names, without_method, without_held, held_by};
+ghost use Rattle.bidi_scripted.specs.Script.{most_rows, can_keep, has_room_for_row, has_room_for_follower, has_room_for_names, with_row, with_follower, with_names, has_method, without_method, without_held, held_by};
 ghost use Rattle.bidi_names.specs.Names.{is_known, words, can_be_known};
-ghost use Rattle.bidi_scripted.specs.Faults.{RefusesRow, RefusesFollower, RefusesNames, RefusesEvent, RefusesRelease, RefusesAnswer};
-ghost use Rattle.bidi_remote.specs.Machine.Connections.{attachment_of};
-ghost use Rattle.bidi_remote.specs.Machine.Asking.{session_in};
-ghost use Rattle.bidi_scripted.specs.Kept.{text_taken, IsKept};
-ghost use Rattle.bidi_scripted.specs.Becomes.{IsPartTaken};
+ghost use Rattle.bidi_scripted.specs.Faults.{RefusesRow, RefusesRemoval, RefusesFollower, RefusesNames, RefusesEvent, RefusesRelease, RefusesAnswer};
+ghost use Rattle.bidi_scripted.specs.Kept.{NamesAsked};
 ghost use Rattle.bidi_scripted.specs.Sending.{emitted, release_sent, followed_by};
 ghost use Rattle.bidi_scripted.specs.View.{script_of, held_of};
 ghost use Rattle.bidi_scripted.specs.declared.fault.ScriptFault.TheVariants.{NotHeld};
@@ -28,9 +25,9 @@ ghost use Rattle.bidi_scripted.specs.declared.fault.ScriptFault.TheVariants.{Not
 use crate::emitting::{answer_sent, push_event};
 use crate::fault::ScriptFault;
 use crate::following::followers_of;
-use crate::script::{Follower, HeldCommand};
+use crate::script::{Follower, HeldCommand, MOST_KNOWN};
 use crate::scripted_end::{ScriptedEnd, Taken, only};
-use bidi_names::{is_known, names_of_line};
+use bidi_names::{is_known, names_of_line, new_words};
 use bidi_remote::{RemoteFault, Sent};
 use bidi_rows::{Answer, Row, read_answer, read_event, read_hold, read_row, read_templates};
 use bidi_tree::JsUint;
@@ -108,13 +105,26 @@ impl ScriptedEnd {
     }
 
     /// Removes all rows of a method, those that answer and those that hold. Commands that are held stay held.
-    pub fn unanswer(&mut self, method: &str)
-        // The rows of this method are gone, and the others stay in order.
-        ensures script { script_of self.new.script ≡ without_method method.now (script_of self.old.script) }
+    ///
+    /// # Errors
+    /// Nothing has changed then. `NoRow`.
+    pub fn unanswer(&mut self, method: &str) -> Result<(), ScriptFault>
+        // After an Ok, the rows of this method are gone, and the others stay in order.
+        ensures ok { OnOk result (script_of self.new.script ≡ without_method method.now (script_of self.old.script)) }
+        // An Ok comes only if there was a row of this method.
+        ensures some { OnOk result (has_method method.now (script_of self.old.script) ≡ true) }
+        // An error has a reason of the definition: there is no row of this method.
+        ensures refused { IfErr result (RefusesRemoval method.now (script_of self.old.script)) }
+        // After an error the script is as it was.
+        ensures err { OnErr result (script_of self.new.script ≡ script_of self.old.script) }
         // The remote end is unchanged.
         ensures end { self.new.end ≡ self.old.end }
     {
+        if !self.script.has_method(method) {
+            return Err(ScriptFault::NoRow);
+        }
         self.script.remove_rows(method);
+        Ok(())
     }
 
     /// The held command of this number.
@@ -136,23 +146,22 @@ impl ScriptedEnd {
         ensures refused { IfErr result (RefusesRelease (held_by number (script_of self.old.script))) }
         // A command whose connection was opened anew is lost, and the remote end is unchanged.
         ensures lost { (held : script.Held) → held_by number (script_of self.old.script) ≡ Some held → held.is_lost ≡ true
-            → IfOk result (λ t. (map sent_of t.sent.items ≡ Lost held.conn ∷ []) × (t.is_of_machine ≡ false) × (t.held ≡ None) × (self.new.end ≡ self.old.end)) }
-        // Any other is handed on to the remote end as it came if no names are known, and what the machine sends for it is sent.
+            → IfOk result (λ t. (map sent_of t.sent.items ≡ Lost held.conn ∷ []) × (t.is_of_machine ≡ false) × (t.held ≡ None) × (self.new.end ≡ self.old.end)
+            × (script_of self.new.script ≡ without_held number (script_of self.old.script))) }
+        // Any other is handed on to the remote end as it came if no names are known, and what the machine sends for it is sent; of the script,
+        // only this command is gone.
         ensures handed_on { (held : script.Held) → held_by number (script_of self.old.script) ≡ Some held → held.is_lost ≡ false
             → (script_of self.old.script).known ≡ []
             → IfOk result (λ t. (i : Input) × IsHeardAs (steps.Text held.conn held.text) i × (t.is_of_machine ≡ true) × (t.held ≡ None)
-            × ((h : List Input) → StandsFor self.old.end h → (map sent_of t.sent.items ≡ out h i) × StandsFor self.new.end (i ∷ h))) }
-        // While names are known, the remote end takes its text without those that only the test has, or the command is refused with `unknown error`.
-        ensures names { (h : List Input) (held : script.Held) → StandsFor self.old.end h → held_by number (script_of self.old.script) ≡ Some held
-            → held.is_lost ≡ false → IfOk result (λ t. (t.held ≡ None)
-            × IsPartTaken held.conn (text_taken (deeds h) (script_of self.old.script) held.conn held.text) h self.new.end t) }
-        // What becomes then of the subscriptions to these names follows from what the command asks, and from what the machine sends.
+            × ((h : List Input) → StandsFor self.old.end h → (map sent_of t.sent.items ≡ out h i) × StandsFor self.new.end (i ∷ h))
+            × (script_of self.new.script ≡ without_held number (script_of self.old.script))) }
+        // While names are known, it is taken as a message that may ask for them; then this command is gone.
         ensures named { (h : List Input) (held : script.Held) → StandsFor self.old.end h → held_by number (script_of self.old.script) ≡ Some held
             → held.is_lost ≡ false → (script_of self.old.script).known ≢ []
-            → IfOk result (IsKept held.conn (deeds h) (session_in (attachment_of (deeds h) held.conn)) (script_of self.old.script).known held.text (script_of self.old.script).named (script_of self.new.script).named) }
+            → IfOk result (λ t. (t.held ≡ None) × (mid : script.Script) × NamesAsked held.conn held.text h self.old.end (script_of self.old.script) self.new.end mid t
+            × (script_of self.new.script ≡ without_held number mid)) }
         // After an Ok, the command is held no longer, so it cannot be released again.
-        ensures released { (h : List Input) → StandsFor self.old.end h
-            → OnOk result ((script_of self.new.script).held ≡ (without_held number (script_of self.old.script)).held) }
+        ensures released { OnOk result ((script_of self.new.script).held ≡ (without_held number (script_of self.old.script)).held) }
         // After an error the script is as it was, and the remote end stands for the histories that it stood for before.
         ensures err { OnErr result ((script_of self.new.script ≡ script_of self.old.script)
             × ((h : List Input) → StandsFor self.old.end h → StandsFor self.new.end h)) }
@@ -203,13 +212,12 @@ impl ScriptedEnd {
     ) -> Result<Taken, ScriptFault>
         ensures handed_on { (script_of self.old.script).known ≡ []
             → IfOk result (λ t. (i : Input) × IsHeardAs (steps.Text conn.value (string_bytes text)) i × (t.is_of_machine ≡ true) × (t.held ≡ None)
-            × ((h : List Input) → StandsFor self.old.end h → (map sent_of t.sent.items ≡ out h i) × StandsFor self.new.end (i ∷ h))) }
-        ensures names { (h : List Input) → StandsFor self.old.end h → IfOk result (λ t. (t.held ≡ None)
-            × IsPartTaken conn.value (text_taken (deeds h) (script_of self.old.script) conn.value (string_bytes text)) h self.new.end t) }
+            × ((h : List Input) → StandsFor self.old.end h → (map sent_of t.sent.items ≡ out h i) × StandsFor self.new.end (i ∷ h))
+            × (script_of self.new.script ≡ without_held number (script_of self.old.script))) }
         ensures named { (h : List Input) → StandsFor self.old.end h → (script_of self.old.script).known ≢ []
-            → IfOk result (IsKept conn.value (deeds h) (session_in (attachment_of (deeds h) conn.value)) (script_of self.old.script).known (string_bytes text) (script_of self.old.script).named (script_of self.new.script).named) }
-        ensures released { (h : List Input) → StandsFor self.old.end h
-            → OnOk result ((script_of self.new.script).held ≡ (without_held number (script_of self.old.script)).held) }
+            → IfOk result (λ t. (t.held ≡ None) × (mid : script.Script) × NamesAsked conn.value (string_bytes text) h self.old.end (script_of self.old.script) self.new.end mid t
+            × (script_of self.new.script ≡ without_held number mid)) }
+        ensures released { OnOk result ((script_of self.new.script).held ≡ (without_held number (script_of self.old.script)).held) }
         ensures err { OnErr result ((script_of self.new.script ≡ script_of self.old.script)
             × ((h : List Input) → StandsFor self.old.end h → StandsFor self.new.end h)) }
         ensures worn_out { (h : List Input) → StandsFor self.old.end h → IsErrOf result ScriptFault.WornOut → most_steps ≤ length h }
@@ -360,12 +368,12 @@ impl ScriptedEnd {
     /// # Errors
     /// Nothing has changed then. `NoMemory`, `BadName`, `TooManyNames`.
     pub fn names(&mut self, names: &str) -> Result<(), ScriptFault>
-        // After an Ok, the words of the text are known as well, and nothing else of the script has changed.
+        // After an Ok, the words of the text are known as well, each once, and nothing else of the script has changed.
         ensures ok { OnOk result (script_of self.new.script ≡ with_names (words names.now) (script_of self.old.script)) }
         // An Ok comes only if each word is a name or `*`.
         ensures named { OnOk result (list_all can_be_known (words names.now) ≡ true) }
-        // An Ok comes only if there was room for so many names.
-        ensures room { OnOk result (has_room_for_names (script_of self.old.script) (length (words names.now)) ≡ true) }
+        // An Ok comes only if there was room for those that are new.
+        ensures room { OnOk result (has_room_for_names (script_of self.old.script) (words names.now) ≡ true) }
         // An error has a reason of the definition: `BadName` or `TooManyNames`, in this order.
         ensures refused { IfErr result (RefusesNames names.now (script_of self.old.script)) }
         // After an error the script is as it was.
@@ -375,11 +383,14 @@ impl ScriptedEnd {
         // `WornOut` never comes.
         ensures worn_out { IsErrOf result ScriptFault.WornOut → ⊥ }
     {
-        let names = read_names(self.alloc, names)?;
-        if !self.script.has_room_for_names(names.len()) {
+        let words = read_names(self.alloc, names)?;
+        let Some(new) = new_words(self.alloc, &self.script.known, &words, MOST_KNOWN)? else {
+            return Err(ScriptFault::TooManyNames);
+        };
+        if !self.script.has_room_for_words(new.len()) {
             return Err(ScriptFault::TooManyNames);
         }
-        Ok(self.script.know(names)?)
+        Ok(self.script.know(new)?)
     }
 
     /// Whether sessions may subscribe to this name because a test made it known, by itself, by its module or with all names.

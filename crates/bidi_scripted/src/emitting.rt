@@ -8,8 +8,9 @@ ghost use Rattle.bidi_remote.specs.Machine.Connections.{connections_of};
 ghost use Rattle.bidi_remote.specs.Machine.Outcome.{deeds};
 ghost use Rattle.bidi_remote.specs.Machine.Sent.{Text};
 ghost use Rattle.bidi_remote.specs.State.Stands.{StandsFor};
+ghost use Rattle.bidi_names.specs.Names.{event_named};
 ghost use Rattle.bidi_names.specs.Subscriptions.{named_of};
-ghost use Rattle.bidi_scripted.specs.Sending.{top_of_event, event_named, reaches, emitted, all_emitted, answer_sent};
+ghost use Rattle.bidi_scripted.specs.Sending.{top_of_event, reaches, emitted, all_emitted, answer_sent};
 
 use bidi_messages::EventName;
 use bidi_names::{NamedSubscription, holds_name};

@@ -32,6 +32,9 @@ pub enum ScriptFault {
     /// 1,024 names would be known.
     #[error("more than 1,024 names would be known")]
     TooManyNames,
+    /// No row is for commands of this method.
+    #[error("no row is for this method")]
+    NoRow,
     /// No command of this number is held: none ever was, or it was released.
     #[error("no command of this number is held")]
     NotHeld,

@@ -8,6 +8,7 @@ ghost use Rattle.bidi_remote.specs.State.Stands.{StandsFor};
 ghost use Rattle.bidi_scripted.specs.Fate.{asks_names};
 ghost use Rattle.bidi_scripted.specs.Becomes.{IsFound, IsLooked, found_names};
 
+use crate::judging::is_json;
 use crate::script::Script;
 use bidi_remote::{RemoteEnd, RemoteFault, Sent};
 use bidi_rows::command_in;
@@ -42,7 +43,8 @@ pub(crate) enum Looked {
     Heard(Vec<Sent>),
 }
 
-/// Looks for what a message asks for, and has the remote end hear it if it asks for nothing of a test. The text is read once for both.
+/// Looks for what a message asks for, and has the remote end hear it if it asks for nothing of a test, or is no JSON. The text is read once for
+/// both, and once more if something is found.
 pub(crate) fn look(
     alloc: Global,
     end: &mut RemoteEnd,
@@ -61,10 +63,14 @@ pub(crate) fn look(
         Err(JsonError::OutOfMemory) => return Err(RemoteFault::NoMemory),
         Err(JsonError::TooLong | JsonError::DuplicateKey) => unreachable!(),
     };
-    match find(script, &value) {
-        Some(found) => Ok(Looked::Found(found)),
-        None => Ok(Looked::Heard(end.hear_value(conn, text, &value)?)),
+    let Some(found) = find(script, &value) else {
+        return Ok(Looked::Heard(end.hear_value(conn, text, &value)?));
+    };
+    drop(value);
+    if !is_json(alloc, text, scratch)? {
+        return Ok(Looked::Heard(end.hear(conn, text)?));
     }
+    Ok(Looked::Found(found))
 }
 
 // What is found for a message with this JSON value.

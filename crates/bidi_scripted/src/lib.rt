@@ -22,6 +22,7 @@ mod emitting;
 mod fault;
 mod finding;
 mod following;
+mod judging;
 mod method_set;
 mod naming;
 mod row_table;

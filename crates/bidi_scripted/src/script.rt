@@ -1,12 +1,13 @@
 //! A script: the rows of a test, and the commands that are held.
-ghost use Rattle.std.specs.Prelude.{◌≡◌, ◌≤◌, ◌<◌, ◌+◌, ◌==◌, ◌++◌, ◌∷◌, [], if◌then◌else◌, List, not, nat_lt, length, map, filter, find, bytes_eq, string_bytes, Some, IsTrue, IfOk, OnOk, OnErr, option_map, MatchOption, vec_len, vec_capacity};
-ghost use Rattle.std.specs.List.{position};
+ghost use Rattle.std.specs.Prelude.{◌≡◌, ◌≤◌, ◌<◌, ◌+◌, ◌^◌, ◌==◌, ◌++◌, ◌∷◌, [], if◌then◌else◌, List, suc, not, nat_lt, nat_le, length, map, filter, find, bytes_eq, string_bytes, Some, IsTrue, IfOk, OnOk, OnErr, option_map, MatchOption, vec_len, vec_capacity};
+ghost use Rattle.std.specs.List.{list_any, position};
 ghost use Rattle.bidi_rows.specs.Command.{Command};
 ghost use Rattle.bidi_rows.specs.Rows.{matches};
 ghost use Rattle.bidi_rows.specs.View.{row_of};
-ghost use Rattle.bidi_scripted.specs.Script.{no_script, is_plain, most_rows, most_numbers, can_keep, has_room_for_command, has_room_for_names, used, with_row, with_use, without_method, with_held, without_held, with_opening, with_follower, with_names, lost_on, held_by};
+ghost use Rattle.bidi_scripted.specs.Script.{no_script, is_plain, most_rows, most_numbers, most_known, can_keep, has_method, has_room_for_command, used, with_row, with_use, without_method, with_held, without_held, with_opening, with_follower, lost_on, held_by};
+ghost use Rattle.bidi_scripted.specs.Kept.{next_alone};
 ghost use Rattle.bidi_names.specs.Sums.{total};
-ghost use Rattle.bidi_names.specs.Subscriptions.{named_of, dismissed, cancelled, of_active};
+ghost use Rattle.bidi_names.specs.Subscriptions.{named_of, has_any, dismissed, cancelled, of_active};
 ghost use Rattle.bidi_scripted.specs.View.{held_of, follower_of, script_of};
 
 use crate::row_table::RowTable;
@@ -21,11 +22,14 @@ const MOST_ROWS: usize = 1_024;
 /// How many commands can be held at once.
 const MOST_HELD: usize = 1_024;
 
-/// How many commands can ever be held.
+/// How many commands can ever be held, and how many subscriptions can be made that only the test keeps.
 const MOST_NUMBERS: u64 = 1_000_000_000;
 
+/// The number of the first subscription that only the test keeps. Those of the remote end are lower.
+const FIRST_ALONE: u64 = (1 << 47) + 1;
+
 /// How many names can be known.
-const MOST_KNOWN: usize = 1_024;
+pub(crate) const MOST_KNOWN: usize = 1_024;
 
 /// How many bytes all rows and held commands can have.
 const MOST_KEPT: usize = 268_435_456;
@@ -69,8 +73,10 @@ pub(crate) struct Script {
     pub followers: Vec<Follower>,
     /// The names that are known.
     pub known: Vec<String>,
-    /// The subscriptions to them, with those of sessions that have ended since the last one was made.
+    /// What subscriptions have that the remote end does not know, with those of sessions that have ended since the last one was made.
     pub named: Vec<NamedSubscription>,
+    /// How many subscriptions were made that only the test keeps.
+    pub made: u64,
 }
 
 impl Script {
@@ -85,6 +91,7 @@ impl Script {
             followers: Vec::new(alloc),
             known: Vec::new(alloc),
             named: Vec::new(alloc),
+            made: 0,
         })
     }
 
@@ -141,6 +148,13 @@ impl Script {
         self.rows.add(row)
     }
 
+    /// Whether a row is for commands of a method.
+    pub(crate) fn has_method(&self, method: &str) -> bool
+        ensures { result ≡ has_method method.now (script_of self.now) }
+    {
+        has_method(&self.rows.all, method)
+    }
+
     /// Removes the rows of a method.
     pub(crate) fn remove_rows(&mut self, method: &str)
         ensures { script_of self.new ≡ without_method method.now (script_of self.old) }
@@ -170,20 +184,20 @@ impl Script {
         Ok(())
     }
 
-    /// Whether so many names more can be known.
-    pub(crate) fn has_room_for_names(&self, more: usize) -> bool
-        ensures { result ≡ has_room_for_names (script_of self.now) more }
+    /// Whether so many words more can be known.
+    pub(crate) fn has_room_for_words(&self, more: usize) -> bool
+        ensures { result ≡ nat_le (length (script_of self.now).known + more) most_known }
     {
         self.known.len().saturating_add(more) <= MOST_KNOWN
     }
 
-    /// Adds a name that is known.
-    pub(crate) fn know(&mut self, names: Vec<String>) -> Result<(), AllocError>
-        ensures ok { OnOk result (script_of self.new ≡ with_names (map string_bytes names.items) (script_of self.old)) }
+    /// Adds words that are known.
+    pub(crate) fn know(&mut self, words: Vec<String>) -> Result<(), AllocError>
+        ensures ok { OnOk result (script_of self.new ≡ record (script_of self.old) { known = (script_of self.old).known ++ map string_bytes words.items }) }
         ensures err { OnErr result (script_of self.new ≡ script_of self.old) }
     {
-        let mut names = names;
-        self.known.append(&mut names)
+        let mut words = words;
+        self.known.append(&mut words)
     }
 
     /// Makes room for one more held command.
@@ -237,44 +251,65 @@ impl Script {
         }
     }
 
-    /// Adds a subscription to names if it was made, and removes those of sessions that are not among these. Room was made before.
-    pub(crate) fn add_named(&mut self, is_made: bool, made: NamedSubscription, active: &[u32])
-        requires { vec_len self.now.named < vec_capacity self.now.named }
-        ensures { script_of self.new ≡ record (script_of self.old) {
-          named =
-              if is_made then of_active active.now (script_of self.old).named ++ named_of made ∷ [] else (script_of self.old).named;
-        } }
+    /// Whether one more subscription can be made that only the test keeps.
+    pub(crate) fn can_make(&self) -> bool
+        ensures can { result ≡ nat_le (script_of self.now).made most_numbers }
+        ensures few { IsTrue result → self.now.made ≤ most_numbers }
     {
-        if !is_made {
+        self.made <= MOST_NUMBERS
+    }
+
+    /// The number of the next one.
+    pub(crate) fn next_alone(&self) -> u64
+        requires { self.now.made ≤ most_numbers }
+        ensures number { result ≡ next_alone (script_of self.now) }
+        ensures fits { result < 2 ^ 48 }
+    {
+        FIRST_ALONE + self.made
+    }
+
+    /// Adds what the remote end does not know of a subscription that it made, if there is anything, and removes that of sessions which are
+    /// not among these. Room was made before.
+    pub(crate) fn add_named(&mut self, made: NamedSubscription, active: &[u32])
+        requires { vec_len self.now.named < vec_capacity self.now.named }
+        ensures { script_of self.new ≡ (if has_any (named_of made) then record (script_of self.old) {
+          named = of_active active.now (script_of self.old).named ++ named_of made ∷ [];
+        } else script_of self.old) }
+    {
+        if !made.has_any() {
             return;
         }
         keep_active(&mut self.named, active);
         self.named.push_reserved(made);
     }
 
-    /// Removes these names from the subscriptions of a session for all contexts, if that was done.
-    pub(crate) fn dismiss_named(&mut self, is_done: bool, session: u32, names: &[String])
+    /// Adds a subscription that only the test keeps, and removes those of sessions that are not among these. Room was made before.
+    pub(crate) fn add_alone(&mut self, made: NamedSubscription, active: &[u32])
+        requires room { vec_len self.now.named < vec_capacity self.now.named }
+        requires few { self.now.made ≤ most_numbers }
         ensures { script_of self.new ≡ record (script_of self.old) {
-          named =
-              if is_done then dismissed session (map string_bytes names.now) (script_of self.old).named else (script_of self.old).named;
+          named = of_active active.now (script_of self.old).named ++ named_of made ∷ [];
+          made = suc (script_of self.old).made;
         } }
     {
-        if !is_done {
-            return;
-        }
-        dismiss(&mut self.named, session, names);
+        keep_active(&mut self.named, active);
+        self.named.push_reserved(made);
+        self.made += 1;
     }
 
-    /// Removes the subscriptions of a session that have one of these numbers, if that was done.
-    pub(crate) fn cancel_named(&mut self, is_done: bool, session: u32, numbers: &[u64])
+    /// Removes these names and modules from the subscriptions of a session for all contexts.
+    pub(crate) fn dismiss_named(&mut self, session: u32, names: &[String], modules: &[String])
         ensures { script_of self.new ≡ record (script_of self.old) {
-          named =
-              if is_done then cancelled session numbers.now (script_of self.old).named else (script_of self.old).named;
+          named = dismissed session (map string_bytes names.now) (map string_bytes modules.now) (script_of self.old).named;
         } }
     {
-        if !is_done {
-            return;
-        }
+        dismiss(&mut self.named, session, names, modules);
+    }
+
+    /// Removes the subscriptions of a session that have one of these numbers.
+    pub(crate) fn cancel_named(&mut self, session: u32, numbers: &[u64])
+        ensures { script_of self.new ≡ record (script_of self.old) { named = cancelled session numbers.now (script_of self.old).named } }
+    {
         cancel(&mut self.named, session, numbers);
     }
 }
@@ -315,6 +350,20 @@ fn left_by_followers(followers: &[Follower], bytes: usize) -> Option<usize>
         left = left.checked_sub(follower.bytes)?;
     }
     Some(left)
+}
+
+// Whether one of these rows is for commands of a method.
+fn has_method(rows: &[Row], method: &str) -> bool
+    ensures { result ≡ list_any (λ row. bytes_eq row.method method.now) (map row_of rows.now) }
+{
+    has_row(rows, method)
+}
+
+// Whether one of these rows is for commands of a method.
+fn has_row(rows: &[Row], method: &str) -> bool
+    ensures { result ≡ list_any (λ row. bytes_eq (row_of row).method method.now) rows.now }
+{
+    rows.iter().any(|row| row.method.as_str() == method)
 }
 
 // Removes the events that follow a method.

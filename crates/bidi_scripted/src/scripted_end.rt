@@ -15,11 +15,9 @@ ghost use Rattle.bidi_remote.specs.Machine.Sent.{out, Text};
 ghost use Rattle.bidi_remote.specs.State.Stands.{StandsFor};
 ghost use Rattle.bidi_sessions.specs.Step as steps;
 ghost use Rattle.bidi_scripted.specs.Script.{no_script, is_plain, with_use, with_held};
-ghost use Rattle.bidi_scripted.specs.Fate.{fate, by_row, by_action, HandedOn, Answered, Held, Unheld, AsksNames, after_step};
-ghost use Rattle.bidi_remote.specs.Machine.Connections.{is_open, attachment_of};
-ghost use Rattle.bidi_remote.specs.Machine.Asking.{session_in};
-ghost use Rattle.bidi_scripted.specs.Kept.{text_taken, IsKept};
-ghost use Rattle.bidi_scripted.specs.Becomes.{Becomes, IsFound, IsHandedOn, IsTaken, TakesPart, sent_by};
+ghost use Rattle.bidi_scripted.specs.Fate.{fate, is_json, by_row, by_action, after_step};
+ghost use Rattle.bidi_remote.specs.Machine.Connections.{is_open};
+ghost use Rattle.bidi_scripted.specs.Becomes.{Becomes, IsFound, IsHandedOn, IsTaken, sent_by};
 ghost use Rattle.bidi_scripted.specs.Sending.{answer_sent};
 ghost use Rattle.bidi_scripted.specs.View.{script_of};
 
@@ -101,34 +99,9 @@ impl ScriptedEnd {
         ensures plain { script_of self.old.script ≡ no_script → IsHandedOn (step_of step) self.old.end self.new.end result }
         // An empty script stays empty.
         ensures stays_plain { script_of self.old.script ≡ no_script → script_of self.new.script ≡ no_script }
-        // A step that no row answers or holds is handed on as it came, and what the machine sends for it is sent.
-        ensures handed_on { (h : List Input) → StandsFor self.old.end h → fate (deeds h) (script_of self.old.script) (step_of step) ≡ HandedOn
-            → IfOk result (λ t. (i : Input) × IsHeardAs (step_of step) i × (t.held ≡ None) × (t.is_of_machine ≡ true) × (map sent_of t.sent.items ≡ out h i)
-            × StandsFor self.new.end (i ∷ h) × (script_of self.new.script ≡ after_step (deeds h) (step_of step) (script_of self.old.script))) }
-        // For a command that a row answers, the events before, one reply and the events after are sent, and the remote end is unchanged.
-        ensures answered { (h : List Input) (c : ℕ) (command : Command) (answer : row.Answer) → StandsFor self.old.end h
-            → fate (deeds h) (script_of self.old.script) (step_of step) ≡ Answered c command answer
-            → IfOk result (λ t. (map sent_of t.sent.items ≡ answer_sent (deeds h) (script_of self.old.script).named c command.id answer) × (t.held ≡ None) × (t.is_of_machine ≡ false)
-            × (self.new.end ≡ self.old.end) × (script_of self.new.script ≡ with_use command (script_of self.old.script))) }
-        // For a command that a row holds, nothing is sent, it gets the next number, and the remote end is unchanged.
-        ensures held { (h : List Input) (c : ℕ) (command : Command) (text : List ℕ) → StandsFor self.old.end h
-            → fate (deeds h) (script_of self.old.script) (step_of step) ≡ Held c command text
-            → IfOk result (λ t. (t.sent.items ≡ []) × (t.held ≡ Some (script_of self.old.script).next) × (t.is_of_machine ≡ false) × (self.new.end ≡ self.old.end)
-            × (script_of self.new.script ≡ with_held c command.id text (with_use command (script_of self.old.script)))) }
-        // For a command that a row would hold if there were room, the error `unknown error` is sent, and nothing changes.
-        ensures unheld { (h : List Input) (c : ℕ) (command : Command) → StandsFor self.old.end h
-            → fate (deeds h) (script_of self.old.script) (step_of step) ≡ Unheld c command
-            → IfOk result (λ t. (map sent_of t.sent.items ≡ Text c (error_text (Some command.id) UnknownError) ∷ []) × (t.held ≡ None) × (t.is_of_machine ≡ false)
-            × (self.new.end ≡ self.old.end) × (script_of self.new.script ≡ script_of self.old.script)) }
-        // Of a message that asks for names that are known, the machine takes the text without those that only the test has, or the message is
-        // refused with `unknown error`; of the script, only the subscriptions to these names change.
-        ensures names { (h : List Input) (c : ℕ) (text : List ℕ) → StandsFor self.old.end h
-            → fate (deeds h) (script_of self.old.script) (step_of step) ≡ AsksNames c text
-            → IfOk result (TakesPart c (text_taken (deeds h) (script_of self.old.script) c text) h (script_of self.old.script) self.new.end (script_of self.new.script)) }
-        // What becomes then of the subscriptions to these names follows from what the command asks, and from what the machine sends.
-        ensures named { (h : List Input) (c : ℕ) (text : List ℕ) → StandsFor self.old.end h
-            → fate (deeds h) (script_of self.old.script) (step_of step) ≡ AsksNames c text
-            → IfOk result (IsKept c (deeds h) (session_in (attachment_of (deeds h) c)) (script_of self.old.script).known text (script_of self.old.script).named (script_of self.new.script).named) }
+        // What comes of it is what its fate means: it is handed on, a row answers or holds it, or it asks for names.
+        ensures becomes { (h : List Input) → StandsFor self.old.end h → IfOk result (λ t. Becomes (fate (deeds h) (script_of self.old.script) (step_of step))
+            h (step_of step) self.old.end (script_of self.old.script) self.new.end (script_of self.new.script) t) }
         // After an error the script is as it was, and the remote end stands for the histories that it stood for before.
         ensures err { OnErr result ((script_of self.new.script ≡ script_of self.old.script)
             × ((h : List Input) → StandsFor self.old.end h → StandsFor self.new.end h)) }
@@ -151,34 +124,9 @@ impl ScriptedEnd {
         ensures plain { script_of self.old.script ≡ no_script → IsHandedOn (steps.Text conn.value text.now) self.old.end self.new.end result }
         // An empty script stays empty.
         ensures stays_plain { script_of self.old.script ≡ no_script → script_of self.new.script ≡ no_script }
-        // A message that no row answers or holds is handed on as it came, and what the machine sends for it is sent.
-        ensures handed_on { (h : List Input) → StandsFor self.old.end h → fate (deeds h) (script_of self.old.script) (steps.Text conn.value text.now) ≡ HandedOn
-            → IfOk result (λ t. (i : Input) × IsHeardAs (steps.Text conn.value text.now) i × (t.held ≡ None) × (t.is_of_machine ≡ true) × (map sent_of t.sent.items ≡ out h i)
-            × StandsFor self.new.end (i ∷ h) × (script_of self.new.script ≡ after_step (deeds h) (steps.Text conn.value text.now) (script_of self.old.script))) }
-        // For a command that a row answers, the events before, one reply and the events after are sent, and the remote end is unchanged.
-        ensures answered { (h : List Input) (c : ℕ) (command : Command) (answer : row.Answer) → StandsFor self.old.end h
-            → fate (deeds h) (script_of self.old.script) (steps.Text conn.value text.now) ≡ Answered c command answer
-            → IfOk result (λ t. (map sent_of t.sent.items ≡ answer_sent (deeds h) (script_of self.old.script).named c command.id answer) × (t.held ≡ None) × (t.is_of_machine ≡ false)
-            × (self.new.end ≡ self.old.end) × (script_of self.new.script ≡ with_use command (script_of self.old.script))) }
-        // For a command that a row holds, nothing is sent, it gets the next number, and the remote end is unchanged.
-        ensures held { (h : List Input) (c : ℕ) (command : Command) (kept : List ℕ) → StandsFor self.old.end h
-            → fate (deeds h) (script_of self.old.script) (steps.Text conn.value text.now) ≡ Held c command kept
-            → IfOk result (λ t. (t.sent.items ≡ []) × (t.held ≡ Some (script_of self.old.script).next) × (t.is_of_machine ≡ false) × (self.new.end ≡ self.old.end)
-            × (script_of self.new.script ≡ with_held c command.id kept (with_use command (script_of self.old.script)))) }
-        // For a command that a row would hold if there were room, the error `unknown error` is sent, and nothing changes.
-        ensures unheld { (h : List Input) (c : ℕ) (command : Command) → StandsFor self.old.end h
-            → fate (deeds h) (script_of self.old.script) (steps.Text conn.value text.now) ≡ Unheld c command
-            → IfOk result (λ t. (map sent_of t.sent.items ≡ Text c (error_text (Some command.id) UnknownError) ∷ []) × (t.held ≡ None) × (t.is_of_machine ≡ false)
-            × (self.new.end ≡ self.old.end) × (script_of self.new.script ≡ script_of self.old.script)) }
-        // Of a message that asks for names that are known, the machine takes the text without those that only the test has, or the message is
-        // refused with `unknown error`; of the script, only the subscriptions to these names change.
-        ensures names { (h : List Input) (c : ℕ) (asked : List ℕ) → StandsFor self.old.end h
-            → fate (deeds h) (script_of self.old.script) (steps.Text conn.value text.now) ≡ AsksNames c asked
-            → IfOk result (TakesPart c (text_taken (deeds h) (script_of self.old.script) c asked) h (script_of self.old.script) self.new.end (script_of self.new.script)) }
-        // What becomes then of the subscriptions to these names follows from what the command asks, and from what the machine sends.
-        ensures named { (h : List Input) (c : ℕ) (asked : List ℕ) → StandsFor self.old.end h
-            → fate (deeds h) (script_of self.old.script) (steps.Text conn.value text.now) ≡ AsksNames c asked
-            → IfOk result (IsKept c (deeds h) (session_in (attachment_of (deeds h) c)) (script_of self.old.script).known asked (script_of self.old.script).named (script_of self.new.script).named) }
+        // What comes of it is what its fate means: it is handed on, a row answers or holds it, or it asks for names.
+        ensures becomes { (h : List Input) → StandsFor self.old.end h → IfOk result (λ t. Becomes (fate (deeds h) (script_of self.old.script) (steps.Text conn.value text.now))
+            h (steps.Text conn.value text.now) self.old.end (script_of self.old.script) self.new.end (script_of self.new.script) t) }
         // After an error the script is as it was, and the remote end stands for the histories that it stood for before.
         ensures err { OnErr result ((script_of self.new.script ≡ script_of self.old.script)
             × ((h : List Input) → StandsFor self.old.end h → StandsFor self.new.end h)) }
@@ -274,7 +222,8 @@ impl ScriptedEnd {
 
     // Takes a message on an open connection, for which this was found.
     fn take_found(&mut self, conn: JsUint, text: &str, found: Found) -> Result<Taken, RemoteFault>
-        requires { IsFound (Some found) self.now.script.rows.all.items (script_of self.now.script).known text.now }
+        requires found { IsFound (Some found) self.now.script.rows.all.items (script_of self.now.script).known text.now }
+        requires json { is_json text.now ≡ true }
         ensures becomes { (h : List Input) → StandsFor self.old.end h → is_open (deeds h) conn.value ≡ true
             → IfOk result (λ t. Becomes (fate (deeds h) (script_of self.old.script)
             (steps.Text conn.value text.now)) h (steps.Text conn.value text.now) self.old.end (script_of self.old.script) self.new.end (script_of self.new.script) t) }
@@ -366,7 +315,7 @@ impl ScriptedEnd {
         ensures end { self.new.end ≡ self.old.end }
     {
         if !self.script.has_room_for_command(text.len()) {
-            return self.refuse(conn, found.id);
+            return self.refuse(conn, found.id, ErrorCode::UnknownError);
         }
         let text = String::from_str(self.alloc, text)?;
         self.script.reserve_held()?;
@@ -379,11 +328,16 @@ impl ScriptedEnd {
         })
     }
 
-    /// Answers a command with `unknown error`.
-    pub(crate) fn refuse(&self, conn: JsUint, id: JsUint) -> Result<Taken, AllocError>
-        ensures { IfOk result (λ t. (map sent_of t.sent.items ≡ Text conn.value (error_text (Some id.value) UnknownError) ∷ []) × (t.held ≡ None) × (t.is_of_machine ≡ false)) }
+    /// Answers a command by an error of this code.
+    pub(crate) fn refuse(
+        &self,
+        conn: JsUint,
+        id: JsUint,
+        code: ErrorCode,
+    ) -> Result<Taken, AllocError>
+        ensures { IfOk result (λ t. (map sent_of t.sent.items ≡ Text conn.value (error_text (Some id.value) code) ∷ []) × (t.held ≡ None) × (t.is_of_machine ≡ false)) }
     {
-        let refusal = error_text(self.alloc, Some(id), ErrorCode::UnknownError)?;
+        let refusal = error_text(self.alloc, Some(id), code)?;
         Ok(Taken {
             sent: only(self.alloc, Sent::Text(conn, SentText::Own(refusal)))?,
             is_of_machine: false,

@@ -1,5 +1,5 @@
 //! Rows and commands with many properties.
-use crate::scenes::found_by;
+use crate::name_limits::check;
 use bidi_scripted::ScriptedEnd;
 use std::alloc::{AllocError, Global};
 use std::test::Fail;
@@ -36,13 +36,4 @@ fn properties(alloc: Global) -> Result<String, AllocError> {
         all.push_str(format!(in alloc; ",\"{name}\":0")?.as_str())?;
     }
     Ok(all)
-}
-
-/// Checks what comes of a line.
-fn check(alloc: Global, end: &mut ScriptedEnd, line: &str, wanted: &str) -> Result<(), Fail> {
-    let found = found_by(alloc, end, line)?;
-    if found.as_str() != wanted {
-        return Err(Fail::new(format_args!("{found}")));
-    }
-    Ok(())
 }

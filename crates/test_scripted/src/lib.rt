@@ -4,4 +4,6 @@
 #[cfg(test)]
 mod large_rows;
 #[cfg(test)]
+mod name_limits;
+#[cfg(test)]
 mod scenes;

@@ -21,7 +21,17 @@ answer { "method": "session.status", "result": { "b": 1.50, "a": [1e2, "é\n"] }
 > 1 {"id":9007199254740991,"method":"session.status"} -> < 1 {"id":9007199254740991,"result":{"b":1.50,"a":[1e2,"é\n"]},"type":"success"}
 > 2 STATUS -> lost 2
 unanswer session.status -> ok
+unanswer session.status -> no effect: no row is for this method
 > 1 STATUS -> < 1 READY
+# a message of more than 1,048,576 bytes is no JSON, so no row is asked of it
+open 1 /session -> opened 1
+answer {"method":"m","result":{}} -> ok
+hold {"method":"h"} -> ok
+> 1 {"id":1,"method":"m"}FULL -> < 1 {"id":1,"result":{},"type":"success"}
+> 1 {"id":1,"method":"m"} FULL -> < 1 NOJSON
+> 1 {"id":1,"method":"h"} FULL -> < 1 NOJSON
+names x -> ok
+> 1 {"id":1,"method":"m"} FULL -> < 1 NOJSON
 # what is no command goes to the machine
 open 1 /session -> opened 1
 answer {"method":"session.status","result":{}} -> ok
@@ -104,7 +114,7 @@ answer {"method":"m","result":{},"before":[{"method":"browsingContext.load","par
 open 1 /session -> opened 1
 > 1 NEW -> < 1 MADE
 open 2 /session -> opened 2
-> 2 NEW -> < 2 {"id":0,"result":{"capabilities":{"acceptInsecureCerts":false,"browserName":"memory-browser","browserVersion":"1.0","platformName":"none","setWindowRect":false,"userAgent":"memory-browser/1.0"},"sessionId":"00000000-0001-8000-8000-000000000002"},"type":"success"}
+> 2 NEW -> < 2 MADE2
 emit {"method":"log.entryAdded","params":{}} -> ok
 > 1 {"id":2,"method":"session.subscribe","params":{"events":["log.entryAdded"],"contexts":["C1"]}} -> < 1 {"id":2,"result":{"subscription":"00000001-0005-8000-8000-000000000001"},"type":"success"}
 > 2 {"id":3,"method":"session.subscribe","params":{"events":["log"]}} -> < 2 {"id":3,"result":{"subscription":"00000002-0005-8000-8000-000000000001"},"type":"success"}
@@ -187,20 +197,97 @@ emit {"method":"networks.fetchError","params":{}} -> ok
 emit {"method":"log.entryAdded","params":{}} -> < 1 {"method":"log.entryAdded","params":{},"type":"event"}
 emit {"method":"x.y","params":{}} -> ok
 > 1 {"id":3,"method":"session.subscribe","params":{"events":["x.z"]}} -> < 1 {"error":"invalid argument","id":3,"message":"invalid argument","type":"error"}
-> 1 {"id":3,"method":"session.subscribe","params":{"events":["x.y"],"contexts":["C1"]}} -> < 1 {"id":3,"result":{"subscription":"00000001-0005-8000-8000-000000000002"},"type":"success"}
+> 1 {"id":3,"method":"session.subscribe","params":{"events":["x.y"],"contexts":["C1"]}} -> < 1 {"id":3,"result":{"subscription":"00000001-0005-8000-8000-800000000001"},"type":"success"}
 emit {"method":"x.y","params":{}} -> ok
 emit {"method":"x.y","params":{"context":"C1"}} -> < 1 {"method":"x.y","params":{"context":"C1"},"type":"event"}
 > 1 {"id":4,"method":"session.unsubscribe","params":{"events":["x.y"]}} -> < 1 {"error":"invalid argument","id":4,"message":"invalid argument","type":"error"}
-> 1 {"id":4,"method":"session.unsubscribe","params":{"subscriptions":["00000001-0005-8000-8000-000000000002"]}} -> < 1 {"id":4,"result":{},"type":"success"}
+> 1 {"id":4,"method":"session.unsubscribe","params":{"subscriptions":["00000001-0005-8000-8000-800000000001"]}} -> < 1 {"id":4,"result":{},"type":"success"}
 emit {"method":"x.y","params":{"context":"C1"}} -> ok
 > 1 {"id":5,"method":"session.unsubscribe","params":{"events":["log.entryAdded","network"]}} -> < 1 {"id":5,"result":{},"type":"success"}
 emit {"method":"network.fetchError","params":{}} -> ok
 emit {"method":"log.entryAdded","params":{}} -> ok
-> 1 {"id":6,"method":"session.subscribe","params":{"events":["x.y"],"userContexts":["default"]}} -> < 1 {"id":6,"result":{"subscription":"00000001-0005-8000-8000-000000000003"},"type":"success"}
+> 1 {"id":6,"method":"session.subscribe","params":{"events":["x.y"],"userContexts":["default"]}} -> < 1 {"id":6,"result":{"subscription":"00000001-0005-8000-8000-800000000002"},"type":"success"}
 emit {"method":"x.y","params":{"source":{"context":"C1"}}} -> < 1 {"method":"x.y","params":{"source":{"context":"C1"}},"type":"event"}
 > 1 {"id":7,"method":"session.subscribe","params":{"events":["x.y"],"contexts":["nowhere"]}} -> < 1 {"error":"no such frame","id":7,"message":"no such frame","type":"error"}
 > 1 {"id":8,"method":"session.end","params":{}} -> < 1 {"id":8,"result":{},"type":"success"}, close 1
 emit {"method":"x.y","params":{"source":{"context":"C1"}}} -> ok
+# a command that does not fit is refused, whatever its names are
+open 1 /session -> opened 1
+> 1 NEW -> < 1 MADE
+names x.y -> ok
+> 1 {"id":2,"method":"session.subscribe","params":{"events":["x.y"],"contexts":[]}} -> < 1 INVALID2
+> 1 {"id":2,"method":"session.subscribe","params":{"events":["x.y"],"contexts":"C1"}} -> < 1 INVALID2
+> 1 {"id":2,"method":"session.subscribe","params":{"events":["x.y",1]}} -> < 1 INVALID2
+> 1 {"id":2,"method":"session.subscribe","params":{"events":["x.y"],"odd":1.5}} -> < 1 INVALID2
+> 1 {"id":2,"method":"session.subscribe","params":{"events":["x.y"]},"odd":DEEP61} -> < 1 INVALID2
+> 1 {"id":2,"method":"session.subscribe","params":{"events":["x.y"],"odd":1e400}} -> < 1 NOJSON
+> 1 {"id":2,"method":"session.subscribe","params":{"events":["x.y"],"contexts":["C1"],"userContexts":["default"]}} -> < 1 INVALID2
+> 1 {"id":2,"method":"session.subscribe","params":{"events":["x.y","x.z"]}} -> < 1 INVALID2
+> 1 {"id":2,"method":"session.subscribe","params":{"events":["x.z"],"contexts":["nowhere"]}} -> < 1 INVALID2
+> 1 {"id":2,"method":"session.unsubscribe","params":{"events":["x.y"],"subscriptions":["s"]}} -> < 1 INVALID2
+> 1 {"id":2,"method":"session.unsubscribe","params":{"events":["x.y",null]}} -> < 1 INVALID2
+> 1 {"id":2,"method":"session.unsubscribe","params":{"events":["x.y"]}} -> < 1 INVALID2
+emit {"method":"x.y","params":{}} -> ok
+# a name is given back by itself alone, and only if all names are
+open 1 /session -> opened 1
+> 1 NEW -> < 1 MADE
+names x -> ok
+> 1 {"id":2,"method":"session.subscribe","params":{"events":["x.y","log.entryAdded"]}} -> < 1 {"id":2,"result":{"subscription":"00000001-0005-8000-8000-000000000001"},"type":"success"}
+> 1 {"id":2,"method":"session.unsubscribe","params":{"events":["x"]}} -> < 1 INVALID2
+> 1 {"id":2,"method":"session.unsubscribe","params":{"events":["x.y","script.message"]}} -> < 1 INVALID2
+> 1 {"id":2,"method":"session.unsubscribe","params":{"events":["x.z","log.entryAdded"]}} -> < 1 INVALID2
+emit {"method":"x.y","params":{}} -> < 1 {"method":"x.y","params":{},"type":"event"}
+emit {"method":"log.entryAdded","params":{}} -> < 1 {"method":"log.entryAdded","params":{},"type":"event"}
+> 1 {"id":3,"method":"session.unsubscribe","params":{"events":["x.y"],"subscriptions":[]}} -> < 1 {"id":3,"result":{},"type":"success"}
+emit {"method":"x.y","params":{}} -> ok
+emit {"method":"log.entryAdded","params":{}} -> < 1 {"method":"log.entryAdded","params":{},"type":"event"}
+> 1 {"id":2,"method":"session.unsubscribe","params":{"events":["x.y"]}} -> < 1 INVALID2
+# subscriptions end by their ids, those that only the test keeps and the others
+open 1 /session -> opened 1
+> 1 NEW -> < 1 MADE
+names x -> ok
+> 1 {"id":3,"method":"session.subscribe","params":{"events":["x"]}} -> < 1 {"id":3,"result":{"subscription":"00000001-0005-8000-8000-800000000001"},"type":"success"}
+> 1 {"id":3,"method":"session.subscribe","params":{"events":["x.y","log"]}} -> < 1 {"id":3,"result":{"subscription":"00000001-0005-8000-8000-000000000001"},"type":"success"}
+> 1 {"id":3,"method":"session.subscribe","params":{"events":["x.z"]}} -> < 1 {"id":3,"result":{"subscription":"00000001-0005-8000-8000-800000000002"},"type":"success"}
+> 1 {"id":2,"method":"session.unsubscribe","params":{"subscriptions":["00000001-0005-8000-8000-800000000001","nothing"]}} -> < 1 INVALID2
+> 1 {"id":2,"method":"session.unsubscribe","params":{"subscriptions":["00000001-0005-8000-8000-800000000003"]}} -> < 1 INVALID2
+emit {"method":"x.a","params":{}} -> < 1 {"method":"x.a","params":{},"type":"event"}
+> 1 {"id":4,"method":"session.unsubscribe","params":{"subscriptions":["00000001-0005-8000-8000-800000000001","00000001-0005-8000-8000-000000000001","00000001-0005-8000-8000-800000000001"]}} -> < 1 {"id":4,"result":{},"type":"success"}
+emit {"method":"x.a","params":{}} -> ok
+emit {"method":"x.y","params":{}} -> ok
+emit {"method":"log.entryAdded","params":{}} -> ok
+emit {"method":"x.z","params":{}} -> < 1 {"method":"x.z","params":{},"type":"event"}
+> 1 {"id":2,"method":"session.unsubscribe","params":{"subscriptions":["00000001-0005-8000-8000-800000000001"]}} -> < 1 INVALID2
+# a subscription that only the test keeps has a number of its own among all sessions
+open 1 /session -> opened 1
+> 1 NEW -> < 1 MADE
+open 2 /session -> opened 2
+> 2 NEW -> < 2 MADE2
+names x -> ok
+> 1 {"id":3,"method":"session.subscribe","params":{"events":["x"]}} -> < 1 {"id":3,"result":{"subscription":"00000001-0005-8000-8000-800000000001"},"type":"success"}
+> 2 {"id":3,"method":"session.subscribe","params":{"events":["x"]}} -> < 2 {"id":3,"result":{"subscription":"00000002-0005-8000-8000-800000000002"},"type":"success"}
+> 2 {"id":2,"method":"session.unsubscribe","params":{"subscriptions":["00000001-0005-8000-8000-800000000001"]}} -> < 2 INVALID2
+emit {"method":"x","params":{}} -> < 1 {"method":"x","params":{},"type":"event"}, < 2 {"method":"x","params":{},"type":"event"}
+# events of a test in a module of the profile come by the module only if it is known itself
+open 1 /session -> opened 1
+> 1 NEW -> < 1 MADE
+names log.x -> ok
+> 1 {"id":3,"method":"session.subscribe","params":{"events":["log"]}} -> < 1 {"id":3,"result":{"subscription":"00000001-0005-8000-8000-000000000001"},"type":"success"}
+emit {"method":"log.x","params":{}} -> ok
+names log log -> ok
+emit {"method":"log.x","params":{}} -> ok
+> 1 {"id":4,"method":"session.subscribe","params":{"events":["log"]}} -> < 1 {"id":4,"result":{"subscription":"00000001-0005-8000-8000-000000000002"},"type":"success"}
+emit {"method":"log.x","params":{}} -> < 1 {"method":"log.x","params":{},"type":"event"}
+> 1 {"id":5,"method":"session.unsubscribe","params":{"events":["log"]}} -> < 1 {"id":5,"result":{},"type":"success"}
+emit {"method":"log.x","params":{}} -> ok
+# a held command asks for names when it is released
+open 1 /session -> opened 1
+> 1 NEW -> < 1 MADE
+hold {"method":"session.subscribe","times":1} -> ok
+> 1 {"id":3,"method":"session.subscribe","params":{"events":["x"]}} -> held 1
+names x -> ok
+release 1 -> < 1 {"id":3,"result":{"subscription":"00000001-0005-8000-8000-800000000001"},"type":"success"}
+emit {"method":"x","params":{}} -> < 1 {"method":"x","params":{},"type":"event"}
 # all names are known, also those of the profile's modules
 open 1 /session -> opened 1
 > 1 NEW -> < 1 MADE
@@ -241,7 +328,7 @@ emit {"method":"m","params":{},"type":"event"} -> no effect: SHAPE
 release 1 {"result":{}} -> no effect: no command of this number is held"#;
 
 /// What words of the table stand for.
-const WORDS: [(&str, &str); 11] = [
+const WORDS: [(&str, &str); 14] = [
     (
         "NAME",
         "a name has 1 to 255 letters, digits, '.', ':', '-' and '_'",
@@ -255,12 +342,24 @@ const WORDS: [(&str, &str); 11] = [
         r#"{"id":1,"result":{"message":"ready","ready":true},"type":"success"}"#,
     ),
     (
+        "NOJSON",
+        r#"{"error":"invalid argument","id":null,"message":"invalid argument","type":"error"}"#,
+    ),
+    (
+        "INVALID2",
+        r#"{"error":"invalid argument","id":2,"message":"invalid argument","type":"error"}"#,
+    ),
+    (
         "UNKNOWN",
         r#"{"error":"unknown command","id":1,"message":"unknown command","type":"error"}"#,
     ),
     (
         "NEW",
         r#"{"id":0,"method":"session.new","params":{"capabilities":{}}}"#,
+    ),
+    (
+        "MADE2",
+        r#"{"id":0,"result":{"capabilities":{"acceptInsecureCerts":false,"browserName":"memory-browser","browserVersion":"1.0","platformName":"none","setWindowRect":false,"userAgent":"memory-browser/1.0"},"sessionId":"00000000-0001-8000-8000-000000000002"},"type":"success"}"#,
     ),
     (
         "MADE",
@@ -322,6 +421,10 @@ fn spelled_out(alloc: Global, row: &str) -> Result<String, AllocError> {
         let deep = format!(in alloc; "{open}{close}")?;
         row = row.replace(alloc, word, deep.as_str())?;
     }
+    if row.as_str().contains("FULL") {
+        let blanks = " ".repeat(alloc, 1_048_576 - r#"{"id":1,"method":"m"}"#.len())?;
+        row = row.replace(alloc, "FULL", blanks.as_str())?;
+    }
     Ok(row)
 }
 
@@ -331,10 +434,7 @@ pub(crate) fn found_by(alloc: Global, end: &mut ScriptedEnd, line: &str) -> Resu
     match word {
         "answer" => done(alloc, end.answer(rest)),
         "hold" => done(alloc, end.hold(rest)),
-        "unanswer" => {
-            end.unanswer(rest);
-            Ok(String::from_str(alloc, "ok")?)
-        }
+        "unanswer" => done(alloc, end.unanswer(rest)),
         "emit" => sent_by(alloc, end.emit(rest)),
         "names" => done(alloc, end.names(rest)),
         "on" => {

@@ -1,6 +1,6 @@
 use Rattle.std.proofs.Common.{◌≡◌, ◌++◌, drop}
 use Rattle.std.specs.Prelude.{not, filter}
-use Rattle.bidi_names.specs.Asked.{is_foreign}
+use Rattle.bidi_names.specs.Names.{is_foreign}
 use Rattle.bidi_names.specs.View.{texts_of}
 use Rattle.bidi_names.proofs.asking.part_names.Given as goal
 

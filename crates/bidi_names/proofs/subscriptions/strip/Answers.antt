@@ -13,6 +13,7 @@ pub loop-subscription-preserved : goal.loop-subscription-preserved
 loop-subscription-preserved c =
     let s = c.args.session in
     let names = map string_bytes c.args.names.now in
+    let modules = map string_bytes c.args.modules.now in
     let i = c.loop-subscription.subscription-index in
     let items = c.loop-subscription.subscriptions in
     let x = c.subscription-item.result in
@@ -20,22 +21,21 @@ loop-subscription-preserved c =
     let long = length-map c.args.subscriptions.now named_of in
     let less : i < length all = let a = c.loop-subscription-test.true in omega (arith, a, long) in
     let at = get_or-map named_of items i x ∙ ap named_of (sym c.subscription-item.is) in
-    let changed = sym (over-next (stripped s names) i all (map named_of items) (named_of x) less c.loop-subscription.invariant at) in
+    let changed = sym (over-next (stripped s names modules) i all (map named_of items) (named_of x) less c.loop-subscription.invariant at) in
     elim c.if-is_global_of.branch [
       | then-is_global_of w ↦
           ap (map named_of) w.subscriptions-is ∙ (map-set named_of items i _
-          ∙ (ap (set (map named_of items) i) (stripped-global s names _ (named_of (get_or items i x))
+          ∙ (ap (set (map named_of items) i) (w.lose.ensures ∙ (stripped-global s names modules (named_of (get_or items i x))
           (sym c.is_global_of.ensures ∙ w.if-is_global_of.true)
-          w.remove_names.ensures
-          ∙ ap (λ z. stripped s names (named_of z)) (sym c.subscription-item.is)) ∙ changed))
+          ∙ ap (λ z. stripped s names modules (named_of z)) (sym c.subscription-item.is))) ∙ changed))
       | else-is_global_of w ↦
           ap (map named_of) w.subscriptions-is ∙ (map-set named_of items i _
-          ∙ (ap (set (map named_of items) i) (ap named_of (sym c.subscription-item.is) ∙ sym (stripped-other s names (named_of x)
+          ∙ (ap (set (map named_of items) i) (ap named_of (sym c.subscription-item.is) ∙ sym (stripped-other s names modules (named_of x)
           (ap (λ z. ((named_of z).session == s) && is_global (named_of z).scope) c.subscription-item.is ∙ (sym c.is_global_of.ensures ∙ w.if-is_global_of.false)))) ∙ changed))
     ]
 
 pub returns : goal.returns
 returns c =
     let long = length-map c.args.subscriptions.now named_of in
-    c.loop-subscription.invariant ∙ over-all (stripped c.args.session (map string_bytes c.args.names.now)) c.loop-subscription.subscription-index
+    c.loop-subscription.invariant ∙ over-all (stripped c.args.session (map string_bytes c.args.names.now) (map string_bytes c.args.modules.now)) c.loop-subscription.subscription-index
     (map named_of c.args.subscriptions.now) (let all = c.loop-subscription-test.false in omega (arith, all, long))

@@ -6,4 +6,4 @@ use Rattle.bidi_names.proofs.subscriptions.strip.Given as goal
 -- the subscriptions that were looked at have lost the names
 abbrev pub invariant-loop-subscription : goal.invariant-loop-subscription
 invariant-loop-subscription l =
-    map named_of l.subscriptions ≡ over (stripped l.session (map string_bytes l.names)) l.subscription-index (map named_of l.initial.subscriptions)
+    map named_of l.subscriptions ≡ over (stripped l.session (map string_bytes l.names) (map string_bytes l.modules)) l.subscription-index (map named_of l.initial.subscriptions)

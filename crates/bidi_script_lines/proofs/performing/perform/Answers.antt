@@ -1,5 +1,5 @@
 use Rattle.std.proofs.Common.{◌∙◌, sym, ap}
-use Rattle.bidi_script_lines.specs.ScriptLines.{Answer, Hold, ReleaseWith, Emit, On, Names}
+use Rattle.bidi_script_lines.specs.ScriptLines.{Answer, Hold, ReleaseWith, Unanswer, Emit, On, Names}
 use Rattle.bidi_script_lines.specs.View.{said_by}
 use Rattle.bidi_script_lines.proofs.PerformLemmas.{brings-as}
 use Rattle.bidi_script_lines.proofs.performing.perform.Goals as goal
@@ -11,6 +11,10 @@ returns-in-Answer-clause-brings c = λ h s.
 pub returns-in-Hold-clause-brings : goal.returns-in-Hold-clause-brings
 returns-in-Hold-clause-brings c = λ h s.
     brings-as (Hold c.as_str-in-Hold.result.now) _ h c.args.end.now c.hold.new.end c.hold.result (ap Hold c.as_str-in-Hold.ensures.value ∙ sym (ap said_by c.in-Hold.is)) (c.hold.ensures.brings h)
+
+pub returns-in-Unanswer-clause-brings : goal.returns-in-Unanswer-clause-brings
+returns-in-Unanswer-clause-brings c = λ h s.
+    brings-as (Unanswer c.as_str-in-Unanswer.result.now) _ h c.args.end.now c.unanswer.new.end c.unanswer.result (ap Unanswer c.as_str-in-Unanswer.ensures.value ∙ sym (ap said_by c.in-Unanswer.is)) (c.unanswer.ensures.brings h)
 
 pub returns-in-ReleaseWith-clause-brings : goal.returns-in-ReleaseWith-clause-brings
 returns-in-ReleaseWith-clause-brings c = λ h s.

@@ -17,12 +17,15 @@ returns-in-Ok-clause-brings c = λ h s.
       was_held = is;
       lost = λ lost.
           let p = call.lost held is lost in
-          (c.of_taken.ensures ∙ (taken-of_test taken p.2 p.1 ∙ ap OfTest p.0), p.3);
+          (c.of_taken.ensures ∙ (taken-of_test taken p.2 p.1 ∙ ap OfTest p.0), p.3, p.4);
       goes_on = λ lives none.
           let p = call.handed_on held is lives none in
           let sent = p.4 h s in
-          (p.0, p.1, c.of_taken.ensures ∙ (taken-of_machine taken p.3 p.2 ∙ ap OfMachine sent.0), sent.1);
-      released = call.released h s;
+          (p.0, p.1, c.of_taken.ensures ∙ (taken-of_machine taken p.3 p.2 ∙ ap OfMachine sent.0), sent.1, p.5);
+      named = λ lives some.
+          let p = call.named h held s is lives some in
+          (taken, p.1, p.2, c.of_taken.ensures, p.3);
+      released = call.released;
     })
 
 pub returns-in-Err-clause-brings : goal.returns-in-Err-clause-brings

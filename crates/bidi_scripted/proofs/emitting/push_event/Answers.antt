@@ -6,7 +6,8 @@ use Rattle.bidi_remote.specs.Machine.Outcome.{deeds}
 use Rattle.bidi_remote.specs.Machine.Sent.{Text}
 use Rattle.bidi_sessions.specs.View.{sent_of}
 use Rattle.bidi_names.specs.Subscriptions.{named_of}
-use Rattle.bidi_scripted.specs.Sending.{event_named, reaches}
+use Rattle.bidi_names.specs.Names.{event_named}
+use Rattle.bidi_scripted.specs.Sending.{reaches}
 use Rattle.bidi_scripted.proofs.emitting.push_event.Goals as goal
 
 pub returns-clause-sends : goal.returns-clause-sends

@@ -7,7 +7,8 @@ use Rattle.bidi_remote.specs.Machine.Sent.{Text}
 use Rattle.bidi_sessions.specs.View.{sent_of}
 use Rattle.bidi_sessions.proofs.ListLemmas.{from-item}
 use Rattle.bidi_names.specs.Subscriptions.{named_of}
-use Rattle.bidi_scripted.specs.Sending.{event_named, reaches}
+use Rattle.bidi_names.specs.Names.{event_named}
+use Rattle.bidi_scripted.specs.Sending.{reaches}
 use Rattle.bidi_scripted.proofs.SendLemmas.{reached-next, reached-other}
 use Rattle.bidi_scripted.proofs.UseLemmas.{get_or-any}
 use Rattle.bidi_scripted.proofs.emitting.push_reached.Goals.{then-reaches+in_ok-push_text, else-reaches}

@@ -8,7 +8,8 @@ use Rattle.bidi_remote.specs.Machine.Sent.{Text}
 use Rattle.bidi_remote.specs.State.Stands.{StandsFor}
 use Rattle.bidi_sessions.specs.View.{sent_of}
 use Rattle.bidi_names.specs.Subscriptions.{named_of}
-use Rattle.bidi_scripted.specs.Sending.{event_named, reaches}
+use Rattle.bidi_names.specs.Names.{event_named}
+use Rattle.bidi_scripted.specs.Sending.{reaches}
 use Rattle.bidi_scripted.proofs.emitting.push_reached.Given as goal
 
 -- what is left is added to what was sent

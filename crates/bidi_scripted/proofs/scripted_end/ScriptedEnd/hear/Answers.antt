@@ -1,7 +1,3 @@
-use Rattle.bidi_sessions.specs.Step as steps
-use Rattle.bidi_scripted.specs.Fate.{HandedOn, Answered, Held, Unheld, AsksNames}
-use Rattle.bidi_scripted.specs.View.{script_of}
-use Rattle.bidi_scripted.proofs.FateLemmas.{becomes, if-ok}
 use Rattle.bidi_scripted.proofs.scripted_end.ScriptedEnd.hear.Goals as goal
 
 pub returns-clause-plain : goal.returns-clause-plain
@@ -10,31 +6,8 @@ returns-clause-plain c = c.take_text.ensures.plain
 pub returns-clause-stays_plain : goal.returns-clause-stays_plain
 returns-clause-stays_plain c = c.take_text.ensures.stays
 
-pub returns-clause-handed_on : goal.returns-clause-handed_on
-returns-clause-handed_on c = λ h s is.
-    becomes _ HandedOn (steps.Text c.args.conn.value c.args.text.now) c.args.self.now.end _ (script_of c.args.self.now.script) _ c.take_text.result h is (c.take_text.ensures.becomes h s)
-
-pub returns-clause-answered : goal.returns-clause-answered
-returns-clause-answered c = λ h n command answer s is.
-    becomes _ (Answered n command answer) (steps.Text c.args.conn.value c.args.text.now) c.args.self.now.end _ (script_of c.args.self.now.script) _ c.take_text.result h is (c.take_text.ensures.becomes h s)
-
-pub returns-clause-held : goal.returns-clause-held
-returns-clause-held c = λ h n command text s is.
-    becomes _ (Held n command text) (steps.Text c.args.conn.value c.args.text.now) c.args.self.now.end _ (script_of c.args.self.now.script) _ c.take_text.result h is (c.take_text.ensures.becomes h s)
-
-pub returns-clause-unheld : goal.returns-clause-unheld
-returns-clause-unheld c = λ h n command s is.
-    becomes _ (Unheld n command) (steps.Text c.args.conn.value c.args.text.now) c.args.self.now.end _ (script_of c.args.self.now.script) _ c.take_text.result h is (c.take_text.ensures.becomes h s)
-
-pub returns-clause-names : goal.returns-clause-names
-returns-clause-names c = λ h n text s is.
-    if-ok c.take_text.result (λ t p. p.0)
-    (becomes _ (AsksNames n text) (steps.Text c.args.conn.value c.args.text.now) c.args.self.now.end _ (script_of c.args.self.now.script) _ c.take_text.result h is (c.take_text.ensures.becomes h s))
-
-pub returns-clause-named : goal.returns-clause-named
-returns-clause-named c = λ h n text s is.
-    if-ok c.take_text.result (λ t p. p.1)
-    (becomes _ (AsksNames n text) (steps.Text c.args.conn.value c.args.text.now) c.args.self.now.end _ (script_of c.args.self.now.script) _ c.take_text.result h is (c.take_text.ensures.becomes h s))
+pub returns-clause-becomes : goal.returns-clause-becomes
+returns-clause-becomes c = c.take_text.ensures.becomes
 
 pub returns-clause-err : goal.returns-clause-err
 returns-clause-err c = c.take_text.ensures.err

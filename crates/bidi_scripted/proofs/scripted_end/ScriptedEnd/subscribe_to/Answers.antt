@@ -1,36 +1,58 @@
-use Rattle.std.proofs.Common.{◌∙◌, ◌<◌, ◌^◌, Some, IfSome, unwrap_or, map, sym, ap, subst}
-use Rattle.std.specs.Prelude.{is_some}
-use Rattle.bidi_sessions.specs.View.{sent_of}
-use Rattle.bidi_sessions.specs.SubscriptionView.{scope_of}
+use Rattle.std.proofs.Common.{◌≡◌, ◌∙◌, ◌++◌, ◌∷◌, [], Some, None, map, sym, ap, subst}
+use Rattle.std.specs.Prelude.{if◌then◌else◌}
 use Rattle.bidi_remote.specs.Machine.Outcome.{deeds}
+use Rattle.bidi_sessions.specs.SubscriptionView.{scope_of}
 use Rattle.bidi_names.specs.Asked.{Subscribes}
-use Rattle.bidi_names.specs.Replies.{Gives}
+use Rattle.bidi_names.specs.Subscriptions.{Named, named_of, of_active, has_any}
+use Rattle.bidi_names.specs.View.{wanted_of}
+use Rattle.bidi_scripted.specs.declared.scripted_end.ScriptedEnd.{ScriptedEnd}
+use Rattle.bidi_scripted.specs.Kept.{Hears, Takes, part_or}
 use Rattle.bidi_scripted.specs.Script.{Script}
 use Rattle.bidi_scripted.specs.View.{script_of}
-use Rattle.bidi_scripted.proofs.FateLemmas.{part-changed}
-use Rattle.bidi_scripted.proofs.KeptLemmas.{kept-by, made, same-made}
+use Rattle.bidi_scripted.proofs.KeptLemmas.{takes-subscribed, takes-unsubscribed, held-either}
+use Rattle.bidi_scripted.proofs.scripted_end.ScriptedEnd.subscribe_to.Goals.{in-Some, in_default}
 use Rattle.bidi_scripted.proofs.scripted_end.ScriptedEnd.subscribe_to.Goals as goal
 
-pub returns-in-Ok-clause-part : goal.returns-in-Ok-clause-part
-returns-in-Ok-clause-part c = λ h s.
-    part-changed _ _ _ _ _ _ _ _ h s c.in-Ok.ensures.handed_on (ap script_of c.in-Ok.ensures.script) (_, c.add_named.ensures)
+pub returns-in-Ok-clause-takes : goal.returns-in-Ok-clause-takes
+returns-in-Ok-clause-takes c = λ h s is.
+    let self = c.args.self.now in
+    let script = script_of self.script in
+    let w = wanted_of c.args.wanted in
+    let conn = c.args.conn.value in
+    let new = c.hand_on_text.new.self in
+    let P : ScriptedEnd → Type 0 = λ x. (c.in-Ok.taken.held ≡ None)
+    × Takes conn h c.args.session (Some (Subscribes w)) self.end script x.end (script_of x.script) c.in-Ok.taken (Hears (part_or w.part c.args.text.now)) in
+    let stays = c.in-Ok.ensures.script in
+    let as_it_was : script_of new.script ≡ script =
+    ap script_of stays ∙ (λ i. record script { named = map named_of (c.reserve.ensures.items i) }) in
+    elim c.match-number_made.branch [
+      | in-Some v ↦
+          let live = v.deref-in-Some.ensures.value ∙ c.in_ok-active.ensures h s in
+          let n : Named = record {
+            session = c.args.session;
+            number = v.in-Some.number;
+            names = w.foreign;
+            modules = w.modules;
+            scope = scope_of c.args.scope;
+          } in
+          subst P (sym v.self-is)
+          (takes-subscribed conn _ _ h c.args.session self.end new.end script (script_of v.add_named.new.self) c.in-Ok.taken s c.in-Ok.ensures.handed_on
+          c.part_or.ensures w (scope_of c.args.scope) is _ c.deref.ensures.value v.in-Some.number v.in-Some.ensures.some v.in-Some.ensures.every
+          (v.add_named.ensures
+          ∙ (λ i. if has_any n then record (as_it_was i) { named = of_active (live i) (as_it_was i).named ++ n ∷ [] } else as_it_was i)))
+      | in_default v ↦
+          subst P (sym v.self-is)
+          (takes-unsubscribed conn _ _ h c.args.session self.end new.end script (script_of new.script) c.in-Ok.taken s c.in-Ok.ensures.handed_on
+          c.part_or.ensures w (scope_of c.args.scope) is _ c.deref.ensures.value v.in_default.ensures.every as_it_was)
+    ]
 
-pub returns-in-Err-clause-err : goal.returns-in-Err-clause-err
-returns-in-Err-clause-err c = (ap script_of c.in-Err.ensures.script, c.in-Err.ensures.handed_on.err)
-
-pub returns-in-Ok-clause-named : goal.returns-in-Ok-clause-named
-returns-in-Ok-clause-named c = λ h w s has live names room.
-    let session = c.args.session in
-    let old = (script_of c.args.self.now.script).named in
-    let new = (script_of c.add_named.new.self).named in
-    let number = c.number_made-number.result in
-    let sent = map sent_of c.in-Ok.taken.sent.items in
-    let scope = scope_of c.args.prepared.scope in
-    kept-by c.args.conn.value (deeds h) session (Some (Subscribes w)) old new c.in-Ok.taken room c.in-Ok.ensures.handed_on.ok.3
-    (made (deeds h) session w sent old new c.args.prepared.active.items scope number
-    (subst (λ v. IfSome number (λ n. (n < 2 ^ 48) × Gives session (map sent_of v) n)) c.deref.ensures.value c.number_made-number.ensures.some)
-    (λ n less gives. c.number_made-number.ensures.every n less (subst (λ v. Gives session (map sent_of v) n) (sym c.deref.ensures.value) gives))
-    has live
-    (ap (λ (x : Script). x.named) c.add_named.ensures
-    ∙ same-made session scope c.is_some.result (is_some number) _ c.args.prepared.active.items c.unwrap_or.result (unwrap_or number 0) _ w.names _ old
-    c.is_some.ensures c.deref-in-Ok.ensures.value c.unwrap_or.ensures names (ap (λ x. (script_of x).named) c.in-Ok.ensures.script)))
+pub returns-in-Ok-clause-held : goal.returns-in-Ok-clause-held
+returns-in-Ok-clause-held c =
+    let new = c.hand_on_text.new.self in
+    let stays = ap (λ x. (script_of x).held) c.in-Ok.ensures.script in
+    elim c.match-number_made.branch [
+      | in-Some v ↦
+          ap (λ (x : ScriptedEnd). (script_of x.script).held) v.self-is
+          ∙ (ap (λ (x : Script). x.held) v.add_named.ensures ∙ (held-either _ (script_of new.script) _ ∙ stays))
+      | in_default v ↦ ap (λ (x : ScriptedEnd). (script_of x.script).held) v.self-is ∙ stays
+    ]
