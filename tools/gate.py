@@ -33,6 +33,8 @@ PROGRAM = [
     ("refused allocations", "tools/refusals.py --short"),
     ("examples", f"tools/examples.py {BIDI}"),
     ("documents", f"tools/blocks.py {BIDI}"),
+    ("scripted plays", f"tools/scripted_plays.py {BIDI}"),
+    ("host checks", f"tools/host_checks.py {BIDI}"),
 ]
 # The words of `trials` that `rt ci` does not run, with the files of what they read and of what they have to write.
 TRIALS = ROOT / "crates/trials"

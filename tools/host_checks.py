@@ -1,0 +1,145 @@
+#!/usr/bin/env python3
+"""Checks of a host over sockets that look at the process: host_checks.py PROGRAM [--readers N] [--bound MIB]
+
+- Clients that do not read make the host hold no more than `--max-buffered`, whatever sends to them: a navigation of another client, a
+  line of standard input, a line of a page. What one step sends comes on top while the step lasts. A client beside them loses nothing.
+- A host that is started with a standard descriptor closed opens no file of its own in that place.
+"""
+import argparse
+import os
+import pathlib
+import subprocess
+import sys
+import tempfile
+import time
+
+from random_scripts import Client, Host, SESSION, TAB
+
+MIB = 1 << 20
+# How long a text of one step is, and how many steps there are.
+LENGTH, STEPS = 400_000, 20
+# What the process may take beside what connections hold.
+SPARE = 24 * MIB
+NEW = '{"id":0,"method":"session.new","params":{"capabilities":{}}}'
+SUBSCRIBE = '{"id":1,"method":"session.subscribe","params":{"events":["browsingContext.navigationStarted","log.entryAdded"]}}'
+STATUS = '{"id":5,"method":"session.status","params":{}}'
+READY = '{"id":5,"result":{"message":"ready","ready":true},"type":"success"}'
+
+
+class Bounded(Host):
+    """A host with a bound."""
+
+    def __init__(self, program, bound):
+        words = [program, "host", "--port", "0", "--stdin", "--max-buffered", str(bound)]
+        self.process = subprocess.Popen(words, stdin=subprocess.PIPE, stdout=subprocess.PIPE, stderr=subprocess.PIPE)
+        self.held, self.idle = [], []
+        for line in self.process.stderr:
+            if b"ws://127.0.0.1:" in line:
+                self.port = int(line.strip().rsplit(b":", 1)[1])
+                return
+
+    def memory(self):
+        """The bytes of the process that are in memory, and the most that ever were."""
+        found = pathlib.Path(f"/proc/{self.process.pid}/status").read_text()
+        return [int(found.split(name)[1].split()[0]) << 10 for name in ("VmRSS:", "VmHWM:")]
+
+    def end(self):
+        self.process.stdin.close()
+        self.process.wait()
+
+
+def reply(client):
+    """The next text that a client reads which is no event."""
+    while True:
+        opcode, text = client.frame()
+        if opcode == 1 and b'"type":"event"' not in text:
+            return text.decode()
+
+
+def navigate(host, client, page):
+    url = "http://a.test/" + "x" * LENGTH
+    client.send_long('{"id":7,"method":"browsingContext.navigate","params":{"context":"' + TAB + '1","url":"' + url + '"}}')
+    return '"type":"success"' in reply(client)
+
+
+def type_line(host, client, page):
+    return host.say(f"log {TAB}1 info " + "x" * LENGTH) == "ok"
+
+
+def say_line(host, client, page):
+    page.send_long(f"log {TAB}1 info " + "x" * LENGTH)
+    return reply(page) == "ok"
+
+
+class Long(Client):
+    """A client that can send long messages."""
+
+    def send_long(self, text):
+        data = text.encode()
+        self.socket.sendall(b"\x81\xff" + len(data).to_bytes(8, "big") + b"\0\0\0\0" + data)
+
+
+def bounded(program, readers, bound, step):
+    """What is wrong with a host whose clients do not read, if anything is."""
+    host = Bounded(program, bound)
+    first = Long(host.port, "/session")
+    first.send(NEW)
+    reply(first)
+    first.send(SUBSCRIBE)
+    reply(first)
+    slow = [Client(host.port, f"/session/{SESSION}1") for _ in range(readers - 1)]
+    good, page = Long(host.port, f"/session/{SESSION}1"), Long(host.port, "/page")
+    before = host.memory()[0]
+    sent = (readers + 1) * LENGTH
+    for n in range(STEPS):
+        if not step(host, good, page):
+            return f"step {n} is not answered"
+        good.send(STATUS)
+        if reply(good) != READY:
+            return f"another client is not served after step {n}"
+    time.sleep(0.5)
+    now, most = host.memory()
+    host.end()
+    for it in [first, *slow, good, page]:
+        it.socket.close()
+    # What one step sends is there twice at most: as it was made, and as it waits.
+    figures = f"{(now - before) / MIB:.0f} MiB are held, and {(most - before) / MIB:.0f} MiB were, with {readers} readers, {bound} MiB and {sent / MIB:.0f} MiB a step"
+    print(f"{step.__name__}: {figures}")
+    return None if now - before <= bound * MIB * 1.25 + SPARE and most - before <= bound * MIB * 1.25 + 2 * sent + SPARE else figures
+
+
+def closed(program, folder, descriptor):
+    """What is wrong with a host that is started with this descriptor closed, if anything is: its record has the lines that it was given."""
+    record = pathlib.Path(folder, f"record{descriptor}")
+    words = [program, "host", "--port", "0", "--stdin", "--lenient", "--record", str(record)]
+    pipes = {name: subprocess.PIPE for number, name in enumerate(("stdin", "stdout", "stderr")) if number != descriptor}
+    process = subprocess.Popen(words, preexec_fn=lambda: os.close(descriptor), **pipes)
+    given = ["names *", "at 5", "log nowhere info x"]
+    try:
+        process.communicate("".join(it + "\n" for it in [*given[1:], "end"]).encode() if descriptor else None, timeout=30)
+    except subprocess.TimeoutExpired:
+        process.kill()
+        return f"with descriptor {descriptor} closed it does not end"
+    found = record.read_text().splitlines()
+    # Without standard input the host ends at once, and without standard output after the first answer.
+    wanted = {0: given[:1], 1: given[:2], 2: given}[descriptor]
+    return None if found == wanted else f"with descriptor {descriptor} closed the record has {found!r}"
+
+
+def main():
+    parser = argparse.ArgumentParser(description="Checks of a host over sockets that look at the process.")
+    parser.add_argument("program")
+    parser.add_argument("--readers", type=int, default=8)
+    parser.add_argument("--bound", type=int, default=4, help="in MiB")
+    asked = parser.parse_args()
+    program = os.path.abspath(asked.program)
+    told = [bounded(program, asked.readers, asked.bound, step) for step in (navigate, type_line, say_line)]
+    with tempfile.TemporaryDirectory() as folder:
+        told += [closed(program, folder, descriptor) for descriptor in (0, 1, 2)]
+    told = [it for it in told if it]
+    print(*told, f"host checks: {len(told)} wrong", sep="\n")
+    return 1 if told else 0
+
+
+if __name__ == "__main__":
+    sys.exit(main())
