@@ -3,11 +3,15 @@
 
 - Clients that do not read make the host hold no more than `--max-buffered`, whatever sends to them: a navigation of another client, a
   line of standard input, a line of a page. What one step sends comes on top while the step lasts. A client beside them loses nothing.
+  tools/held.c, which `cc` compiles, counts the memory in the blocks that the host holds.
 - A host that is started with a standard descriptor closed opens no file of its own in that place.
 """
 import argparse
+import mmap
 import os
 import pathlib
+import shutil
+import struct
 import subprocess
 import sys
 import tempfile
@@ -15,11 +19,12 @@ import time
 
 from random_scripts import Client, Host, SESSION, TAB
 
+ROOT = pathlib.Path(__file__).resolve().parent.parent
 MIB = 1 << 20
 # How long a text of one step is, and how many steps there are.
 LENGTH, STEPS = 400_000, 20
-# What the process may take beside what connections hold.
-SPARE = 24 * MIB
+# What a connection may keep for later, and what the host may hold beside that and beside the browser.
+KEPT, SPARE = 1 << 17, MIB
 NEW = '{"id":0,"method":"session.new","params":{"capabilities":{}}}'
 SUBSCRIBE = '{"id":1,"method":"session.subscribe","params":{"events":["browsingContext.navigationStarted","log.entryAdded"]}}'
 STATUS = '{"id":5,"method":"session.status","params":{}}'
@@ -27,11 +32,16 @@ READY = '{"id":5,"result":{"message":"ready","ready":true},"type":"success"}'
 
 
 class Bounded(Host):
-    """A host with a bound."""
+    """A host with a bound, whose blocks of memory are counted."""
 
-    def __init__(self, program, bound):
+    def __init__(self, program, bound, folder):
         words = [program, "host", "--port", "0", "--stdin", "--max-buffered", str(bound)]
-        self.process = subprocess.Popen(words, stdin=subprocess.PIPE, stdout=subprocess.PIPE, stderr=subprocess.PIPE)
+        counts = pathlib.Path(folder, "held")
+        counts.write_bytes(bytes(16))
+        with open(counts, "r+b") as file:
+            self.counts = mmap.mmap(file.fileno(), 16)
+        environment = {**os.environ, "LD_PRELOAD": str(pathlib.Path(folder, "held.so")), "HELD": str(counts)}
+        self.process = subprocess.Popen(words, env=environment, stdin=subprocess.PIPE, stdout=subprocess.PIPE, stderr=subprocess.PIPE)
         self.held, self.idle = [], []
         for line in self.process.stderr:
             if b"ws://127.0.0.1:" in line:
@@ -39,13 +49,25 @@ class Bounded(Host):
                 return
 
     def memory(self):
-        """The bytes of the process that are in memory, and the most that ever were."""
+        """The bytes in the blocks that the host holds, and the most that ever were."""
+        return struct.unpack("qq", self.counts)
+
+    def resident(self):
+        """The most bytes of the process that were in memory."""
         found = pathlib.Path(f"/proc/{self.process.pid}/status").read_text()
-        return [int(found.split(name)[1].split()[0]) << 10 for name in ("VmRSS:", "VmHWM:")]
+        return int(found.split("VmHWM:")[1].split()[0]) << 10
 
     def end(self):
         self.process.stdin.close()
         self.process.wait()
+
+
+def compiled(folder):
+    """Compiles tools/held.c in this folder."""
+    compiler = shutil.which("cc") or shutil.which("gcc")
+    if not compiler:
+        sys.exit("host checks: there is no C compiler, neither `cc` nor `gcc`, for tools/held.c")
+    subprocess.run([compiler, "-O1", "-shared", "-fPIC", "-o", f"{folder}/held.so", ROOT / "tools/held.c"], check=True)
 
 
 def reply(client):
@@ -79,9 +101,9 @@ class Long(Client):
         self.socket.sendall(b"\x81\xff" + len(data).to_bytes(8, "big") + b"\0\0\0\0" + data)
 
 
-def bounded(program, readers, bound, step):
+def bounded(program, folder, readers, bound, step):
     """What is wrong with a host whose clients do not read, if anything is."""
-    host = Bounded(program, bound)
+    host = Bounded(program, bound, folder)
     first = Long(host.port, "/session")
     first.send(NEW)
     reply(first)
@@ -89,8 +111,7 @@ def bounded(program, readers, bound, step):
     reply(first)
     slow = [Client(host.port, f"/session/{SESSION}1") for _ in range(readers - 1)]
     good, page = Long(host.port, f"/session/{SESSION}1"), Long(host.port, "/page")
-    before = host.memory()[0]
-    sent = (readers + 1) * LENGTH
+    began, resident = host.memory()[0], host.resident()
     for n in range(STEPS):
         if not step(host, good, page):
             return f"step {n} is not answered"
@@ -98,14 +119,18 @@ def bounded(program, readers, bound, step):
         if reply(good) != READY:
             return f"another client is not served after step {n}"
     time.sleep(0.5)
-    now, most = host.memory()
+    now, most = (it - began for it in host.memory())
+    resident = host.resident() - resident
     host.end()
     for it in [first, *slow, good, page]:
         it.socket.close()
-    # What one step sends is there twice at most: as it was made, and as it waits.
-    figures = f"{(now - before) / MIB:.0f} MiB are held, and {(most - before) / MIB:.0f} MiB were, with {readers} readers, {bound} MiB and {sent / MIB:.0f} MiB a step"
-    print(f"{step.__name__}: {figures}")
-    return None if now - before <= bound * MIB * 1.25 + SPARE and most - before <= bound * MIB * 1.25 + 2 * sent + SPARE else figures
+    # A browser keeps the URLs of the entries of its history.
+    spare = SPARE + (readers + 3) * KEPT + (STEPS * LENGTH if step is navigate else 0)
+    # In a step a buffer grows by a text, and by an eighth of what waits in it; a text is also read, parsed and written.
+    sent = (readers + 8) * LENGTH + bound * MIB // 8
+    figures = f"{now / MIB:.0f} MiB are held, {most / MIB:.0f} MiB were at most, and {resident / MIB:.0f} MiB were in memory"
+    print(f"{step.__name__}, {readers} readers, a bound of {bound} MiB, {(readers + 1) * LENGTH / MIB:.0f} MiB a step: {figures}")
+    return None if now <= bound * MIB + spare and most <= bound * MIB + sent + spare else figures
 
 
 def closed(program, folder, descriptor):
@@ -133,8 +158,9 @@ def main():
     parser.add_argument("--bound", type=int, default=4, help="in MiB")
     asked = parser.parse_args()
     program = os.path.abspath(asked.program)
-    told = [bounded(program, asked.readers, asked.bound, step) for step in (navigate, type_line, say_line)]
     with tempfile.TemporaryDirectory() as folder:
+        compiled(folder)
+        told = [bounded(program, folder, asked.readers, asked.bound, step) for step in (navigate, type_line, say_line)]
         told += [closed(program, folder, descriptor) for descriptor in (0, 1, 2)]
     told = [it for it in told if it]
     print(*told, f"host checks: {len(told)} wrong", sep="\n")

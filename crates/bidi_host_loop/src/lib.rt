@@ -28,6 +28,7 @@
 #![tactic(auto)]
 
 mod arrivals;
+mod bounding;
 mod calls;
 mod clients;
 mod clock;

@@ -1,4 +1,5 @@
 //! The connections that are held, each at a place of its own.
+use crate::bounding::held_at;
 use crate::clock::earlier;
 use crate::own::Own;
 use crate::slot::{Role, Slot, deadline_of, flushed_is_over, is_page, is_past};
@@ -8,9 +9,6 @@ use bidi_tree::JsUint;
 use mio::net::TcpStream;
 use std::alloc::{AllocError, Global};
 use std::time::Instant;
-
-/// How many bytes go around a payload at most: the head of a frame, or that of a reply.
-const FRAMING: usize = 256;
 
 /// The place of the connection with a number.
 #[derive(Clone, Copy)]
@@ -22,14 +20,14 @@ struct Route {
 /// The connections that are held. A place is used again when its connection is gone.
 #[derive(Drop)]
 pub(crate) struct Peers {
-    slots: Vec<Option<Slot>>,
+    pub(crate) slots: Vec<Option<Slot>>,
     routes: Vec<Route>,
     // The most places.
     most: usize,
     // The texts of the host's own connection, while it has one.
     own: Option<Own>,
-    // All connections together hold no more bytes than this.
-    held: usize,
+    /// All connections together hold no more bytes than this.
+    pub(crate) held: usize,
 }
 
 impl Peers {
@@ -78,34 +76,6 @@ impl Peers {
             *slot = None;
         }
         Some(place)
-    }
-
-    /// If all connections together hold more than so many bytes, fails those that hold most, one after another, until
-    /// they hold no more.
-    ///
-    /// What is held is counted only if what was added since the last count could be too much.
-    pub(crate) fn hold_at_most(&mut self, most: usize) -> Result<(), AllocError> {
-        if self.held <= most {
-            return Ok(());
-        }
-        // A connection fails at most twice: when it is open, and when it is closing.
-        for _ in 0..=self.slots.len().saturating_mul(2) {
-            let Held { all, largest } = held_by(&self.slots);
-            self.held = all;
-            if all <= most {
-                return Ok(());
-            }
-            match self.slots.get_mut(largest) {
-                Some(Some(slot)) => slot.shed()?,
-                _ => return Ok(()),
-            }
-        }
-        Ok(())
-    }
-
-    // Notes that so many bytes more may be held.
-    fn hold(&mut self, more: usize) {
-        self.held = self.held.saturating_add(more);
     }
 
     /// Puts a connection at a free place. Its handshake has until the deadline.
@@ -200,7 +170,7 @@ impl Peers {
 
     /// Replies to a call.
     pub(crate) fn reply(&mut self, place: usize, reply: &Reply) -> Result<(), AllocError> {
-        self.hold(queued(reply.json.len()));
+        self.hold_payload(reply.json.len());
         if let Some(Some(slot)) = self.slots.get_mut(place) {
             slot.role = Role::Leaving;
             slot.is_answered = true;
@@ -233,7 +203,7 @@ impl Peers {
 
     /// Queues a text for the connection at a place.
     pub(crate) fn send_to(&mut self, place: usize, text: &str) -> Result<(), AllocError> {
-        self.hold(queued(text.len()));
+        self.hold_payload(text.len());
         match self.slots.get_mut(place) {
             Some(Some(slot)) => slot.send(text),
             _ => Ok(()),
@@ -256,7 +226,7 @@ impl Peers {
         let Some(place) = self.place_of(conn) else {
             return Ok(());
         };
-        self.hold(queued(bytes.len()));
+        self.hold_payload(bytes.len());
         match self.slots.get_mut(place) {
             Some(Some(slot)) => slot.send_bytes(bytes),
             _ => Ok(()),
@@ -407,43 +377,6 @@ impl Peers {
             }
         }
         next
-    }
-}
-
-/// What connections hold.
-struct Held {
-    // How many bytes all hold together.
-    all: usize,
-    // The place of the one that holds most.
-    largest: usize,
-}
-
-// What these connections hold.
-fn held_by(slots: &[Option<Slot>]) -> Held {
-    let mut all: usize = 0;
-    let mut most: usize = 0;
-    let mut largest = 0;
-    for place in 0..slots.len() {
-        let here = held_at(slots, place);
-        all = all.saturating_add(here);
-        if here > most {
-            most = here;
-            largest = place;
-        }
-    }
-    Held { all, largest }
-}
-
-// How many bytes a payload of this length takes, with what frames it.
-fn queued(length: usize) -> usize {
-    length.saturating_add(FRAMING)
-}
-
-// How many bytes the connection at a place holds.
-fn held_at(slots: &[Option<Slot>], place: usize) -> usize {
-    match slots.get(place) {
-        Some(Some(slot)) => slot.peer.held(),
-        _ => 0,
     }
 }
 

@@ -1,8 +1,8 @@
 -- What a text that is sent adds to what waits.
 use Rattle.std.proofs.Common.{◌≡◌, ◌∙◌, ◌++◌, ◌+◌, ◌<◌, ℕ, List, Option, None, Some, Ok, Err, ap, append_assoc, arith, inl, inr, length, refl, subst, sym, ◌⊎◌}
 use Rattle.std.proofs.lemmas.List.{length-append}
-use Rattle.websocket.specs.Connection.{Connection, IsMaskOf, check_can_write, send, whole_header, write_step}
-use Rattle.websocket.specs.Content.{text}
+use Rattle.websocket.specs.Connection.{Connection, Effect, IsMaskOf, check_can_write, check_close, close_step, close_to, closing_state, send, whole_header, write_step}
+use Rattle.websocket.specs.Content.{close_payload, text}
 use Rattle.websocket.specs.Frame.{Checked, after_check, encode_frame}
 use Rattle.websocket.specs.FrameHeader.{encode_header, extended_len}
 use Rattle.websocket.proofs.FrameHeaderLemmas.{length-encode_header}
@@ -10,12 +10,17 @@ use Rattle.websocket.specs.View.{Leaves}
 use Rattle.websocket.specs.declared.error.Error.{Error}
 use Rattle.websocket.specs.declared.protocol.config.Role.TheVariants.{Server}
 use Rattle.websocket.specs.declared.protocol.frame.coding.Data.TheVariants.{Binary, Text}
-use Rattle.websocket.specs.declared.protocol.frame.coding.OpCode.TheVariants.{Data}
+use Rattle.websocket.specs.declared.protocol.frame.coding.CloseCode.{CloseCode}
+use Rattle.websocket.specs.declared.protocol.frame.coding.Control.TheVariants.{Close}
+use Rattle.websocket.specs.declared.protocol.frame.coding.OpCode.TheVariants.{Control, Data}
+use Rattle.websocket.specs.declared.protocol.state.WebSocketState.TheVariants.{Active, ClosedByUs}
 use Rattle.bidi_peer.specs.declared.standing.Peer.{Peer}
 use Rattle.bidi_peer.specs.declared.standing.State.{State}
 use Rattle.bidi_peer.specs.declared.standing.State.TheVariants.{Closing, Open}
-use Rattle.bidi_peer.specs.Sending.{Flushes, HasNoRoom, IsLittle, KeepsWhatCame, Puts, PutsFrame, Sends, bytes_frame, text_frame}
+use Rattle.bidi_peer.specs.Sending.{Flushes, HasNoRoom, IsLittle, KeepsWhatCame, PutsFrame, Sends, SendsClose, bytes_frame, close_frame, text_frame}
+use Rattle.bidi_peer.specs.Closing.{code_of, reason_of}
 use Rattle.bidi_peer.specs.Telling.{HasFailed, StaysUnlessFailed}
+use Rattle.bidi_peer.specs.declared.framing.Fault.TheVariants.{Slow}
 use Rattle.bidi_peer.specs.Waiting.{Writes, unwritten}
 use Rattle.bidi_peer.proofs.WaitingLemmas.{writes_then}
 
@@ -34,6 +39,22 @@ pub server_frame : (c n : Connection) (t old out : List ℕ) → Leaves (write_s
 server_frame c n t old out leaves server =
     let w = checked-frame (check_can_write c.state) c n t old out leaves in
     w.2 ∙ ap (λ mask. old ++ encode_frame (whole_header (Data Text) mask) t) (no-mask w.0 (subst (λ r. IsMaskOf r w.0) server w.1))
+
+-- a server that is active closes by one close frame without a mask
+pub server_close : (c n : Connection) (code : CloseCode) (reason old out : List ℕ) → Leaves (close_step c (Some (code, reason))) n old out → c.role ≡ Server → c.state ≡ Active
+    → out ≡ old ++ close_frame code reason
+server_close c n code reason old out leaves server active =
+    let frame : Option (CloseCode × List ℕ) = Some (code, reason) in
+    of (check_close frame) (subst (λ s. Leaves (close_to c frame (closing_state s)) n old out) active leaves)
+  where
+    reply : Effect
+    reply = record { message = None; reply = Some (record { opcode = Control Close; payload = close_payload (Some (code, reason)) }); next = record c { state = ClosedByUs } }
+
+    of : (check : Checked Error) → Leaves (after_check check (Ok reply)) n old out → out ≡ old ++ close_frame code reason
+    of (Ok x) l =
+        l.1.2 ∙ ap (λ mask. old ++ encode_frame (whole_header (Control Close) mask) (close_payload (Some (code, reason))))
+        (no-mask l.1.0 (subst (λ r. IsMaskOf r l.1.0) server (subst (λ (k : Connection). IsMaskOf k.role l.1.0) l.0 l.1.1)))
+    of (Err e) l = absurd l
 
 -- how long the frame of a text is
 pub text_frame_length : (t : List ℕ) → length (text_frame t) ≡ length t + (2 + extended_len (length t))
@@ -69,27 +90,29 @@ module _ {S : Type 0} (contents : S → Option (List ℕ)) where
   sent t a b c d (inr before) stays put (inl failed) still = absurd (open-failed d.state still failed)
   sent t a b c d (inr before) stays put (inr after) still = puts-sends t a b c d before put after
 
-  -- where it is open, a text without room closes it, unless its stream fails
-  pub no_room : (t : List ℕ) (a b d : Peer S) → HasFailed b.state ⊎ Flushes contents a b → b.state ≡ Open → b.most_waiting < length (unwritten b.outbox) + length (text_frame t)
-      → StaysUnlessFailed Closing d.state → StaysUnlessFailed Open d.state ⊎ HasNoRoom contents t a d
-  no_room t a b d (inl failed) opened full ends = absurd (open-failed b.state opened failed)
-  no_room t a b d (inr before) opened full (inl closing) = inr (record {
+  -- where it is open, a frame without room closes it, unless its stream fails
+  pub no_room : (t : List ℕ) (a b d : Peer S) → HasFailed b.state ⊎ Flushes contents a b → b.state ≡ Open → b.most_waiting < length (unwritten b.outbox) + length t
+      → StaysUnlessFailed Closing d.state → SendsClose contents (code_of Slow) (reason_of Slow) b d → StaysUnlessFailed Open d.state ⊎ HasNoRoom contents t a d
+  no_room t a b d (inl failed) opened full ends close = absurd (open-failed b.state opened failed)
+  no_room t a b d (inr before) opened full (inr failed) close = inl (inr failed)
+  no_room t a b d (inr before) opened full (inl closing) (inl failed) = inl (inr failed)
+  no_room t a b d (inr before) opened full (inl closing) (inr close) = inr (record {
     closes = closing;
     rest = unwritten b.outbox;
     stream = b.stream;
     writes = before.writes;
-    full = subst (λ m. m < length (unwritten b.outbox) + length (text_frame t)) before.bound full;
+    full = subst (λ m. m < length (unwritten b.outbox) + length t) before.bound full;
+    close = close;
   })
-  no_room t a b d (inr before) opened full (inr failed) = inl (inr failed)
 
 module _ {S : Type 0} where
-  -- a little text waits
-  pub waited : (t : List ℕ) (a b c d : Peer S) → b ≡ a → Puts t b c → c.state ≡ b.state → (length (unwritten c.outbox) < 65536 → d ≡ c) → a.state ≡ Open → IsLittle t a
-      → (d.state ≡ Open) × Puts t a d
+  -- a short frame waits
+  pub waited : (t : List ℕ) (a b c d : Peer S) → b ≡ a → PutsFrame t b c → c.state ≡ b.state → (length (unwritten c.outbox) < 65536 → d ≡ c) → a.state ≡ Open → IsLittle t a
+      → (d.state ≡ Open) × PutsFrame t a d
   waited t a b c d same put stays little opened is =
-      let joins : unwritten c.outbox ≡ unwritten a.outbox ++ text_frame t = subst (λ (p : Peer S). unwritten c.outbox ≡ unwritten p.outbox ++ text_frame t) same put.joins in
-      let short : length (unwritten c.outbox) < 65536 = omega (arith, ap length joins, length-append (unwritten a.outbox) (text_frame t), is.1) in
-      subst (λ (p : Peer S). (p.state ≡ Open) × Puts t a p) (sym (little short))
+      let joins : unwritten c.outbox ≡ unwritten a.outbox ++ t = subst (λ (p : Peer S). unwritten c.outbox ≡ unwritten p.outbox ++ t) same put.joins in
+      let short : length (unwritten c.outbox) < 65536 = omega (arith, ap length joins, length-append (unwritten a.outbox) t, is.1) in
+      subst (λ (p : Peer S). (p.state ≡ Open) × PutsFrame t a p) (sym (little short))
       (stays ∙ ap (λ (p : Peer S). p.state) same ∙ opened, record { stream = put.stream ∙ ap (λ (p : Peer S). p.stream) same; came = subst (λ (p : Peer S). KeepsWhatCame p c) same put.came; joins = joins })
 
   keeps-then : (a b c : Peer S) → KeepsWhatCame a b → KeepsWhatCame b c → KeepsWhatCame a c

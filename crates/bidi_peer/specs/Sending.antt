@@ -1,11 +1,17 @@
 -- What a connection sends, in frames of RFC 6455, 5.2. A server's frame has no mask.
-use Rattle.std.specs.Prelude.{◌≡◌, ◌<◌, ◌≤◌, ◌+◌, ℕ, List, ◌++◌, length, None, Option}
+use Rattle.std.specs.Prelude.{◌≡◌, ◌<◌, ◌≤◌, ◌⊎◌, ◌+◌, ℕ, List, ◌++◌, length, None, Option, Some}
 use Rattle.websocket.specs.Connection.{whole_header}
+use Rattle.websocket.specs.Content.{close_payload}
 use Rattle.websocket.specs.Frame.{encode_frame}
+use Rattle.websocket.specs.declared.protocol.frame.coding.CloseCode.{CloseCode}
+use Rattle.websocket.specs.declared.protocol.frame.coding.Control.TheVariants.{Close}
 use Rattle.websocket.specs.declared.protocol.frame.coding.Data.TheVariants.{Binary, Text}
-use Rattle.websocket.specs.declared.protocol.frame.coding.OpCode.TheVariants.{Data}
+use Rattle.websocket.specs.declared.protocol.frame.coding.OpCode.TheVariants.{Control, Data}
 use Rattle.bidi_peer.specs.declared.standing.Peer.{Peer}
 use Rattle.bidi_peer.specs.declared.standing.State.TheVariants.{Closing}
+use Rattle.bidi_peer.specs.Closing.{code_of, reason_of}
+use Rattle.bidi_peer.specs.Telling.{HasFailed}
+use Rattle.bidi_peer.specs.declared.framing.Fault.TheVariants.{Slow}
 use Rattle.bidi_peer.specs.Waiting.{Writes, untaken, unwritten}
 
 -- so many bytes wait before they are written
@@ -19,6 +25,10 @@ text_frame text = encode_frame (whole_header (Data Text) None) text
 -- the frame of a binary message
 abbrev pub bytes_frame : List ℕ → List ℕ
 bytes_frame bytes = encode_frame (whole_header (Data Binary) None) bytes
+
+-- the close frame with a code and a reason
+abbrev pub close_frame : CloseCode → List ℕ → List ℕ
+close_frame code reason = encode_frame (whole_header (Control Close) None) (close_payload (Some (code, reason)))
 
 module _ {S : Type 0} where
   -- The state of the protocol and the bytes that came are unchanged.
@@ -56,14 +66,19 @@ module _ {S : Type 0} where
   abbrev pub SendsBytes : (S → Option (List ℕ)) → List ℕ → Peer S → Peer S → Type 0
   SendsBytes contents bytes old new = Sends contents (bytes_frame bytes) old new
 
-  -- With the frame of a text, the bytes that wait are within the bound and too few to be written now.
-  abbrev pub IsLittle : List ℕ → Peer S → Type 0
-  IsLittle text old = (length (unwritten old.outbox) + length (text_frame text) ≤ old.most_waiting) × (length (unwritten old.outbox) + length (text_frame text) < write_from)
+  -- The close frame with a code and a reason is sent behind what waited, unless the stream fails.
+  abbrev pub SendsClose : (S → Option (List ℕ)) → CloseCode → List ℕ → Peer S → Peer S → Type 0
+  SendsClose contents code reason old new = HasFailed new.state ⊎ Sends contents (close_frame code reason) old new
 
-  -- The stream took what it could, and with the frame of a text the rest is past the bound: the connection closes.
-  pub record HasNoRoom (contents : S → Option (List ℕ)) (text : List ℕ) (old new : Peer S) : Type 0 where
+  -- With a frame, the bytes that wait are within the bound and too few to be written now.
+  abbrev pub IsLittle : List ℕ → Peer S → Type 0
+  IsLittle frame old = (length (unwritten old.outbox) + length frame ≤ old.most_waiting) × (length (unwritten old.outbox) + length frame < write_from)
+
+  -- The stream took what it could, and with the frame the rest is past the bound: the connection closes, by a close frame behind the rest.
+  pub record HasNoRoom (contents : S → Option (List ℕ)) (frame : List ℕ) (old new : Peer S) : Type 0 where
     pub closes : new.state ≡ Closing
     pub rest : List ℕ
     pub stream : S
     pub writes : Writes contents (unwritten old.outbox) rest old.stream stream
-    pub full : old.most_waiting < length rest + length (text_frame text)
+    pub full : old.most_waiting < length rest + length frame
+    pub close : Writes contents (rest ++ close_frame (code_of Slow) (reason_of Slow)) (unwritten new.outbox) stream new.stream

@@ -1,5 +1,5 @@
 -- What waits in a connection: bytes that came, and bytes to be written.
-use Rattle.std.specs.Prelude.{◌≡◌, ◌≢◌, ℕ, List, ◌++◌, Option, drop, slice_range}
+use Rattle.std.specs.Prelude.{◌≡◌, ◌≢◌, ℕ, ◌+◌, ◌-◌, List, ◌++◌, Option, drop, slice_range, nat_lt, if◌then◌else◌, vec_len, vec_capacity}
 use Rattle.std.specs.Io.KnownBytes.{Appends, Consumes, IsAtEnd}
 use Rattle.bidi_peer.specs.declared.inbox.Filled.{Filled}
 use Rattle.bidi_peer.specs.declared.inbox.Filled.TheVariants as filled
@@ -13,6 +13,18 @@ untaken i = slice_range i.bytes.items i.start i.end
 -- the bytes that wait to be written
 abbrev pub unwritten : Outbox → List ℕ
 unwritten o = drop o.sent o.first.items ++ o.second.items
+
+-- the bytes of memory that a block of this size counts for, if so many bytes wait in it: one of at most 64 KiB may be kept for later, and counts by what waits
+abbrev pub counted : ℕ → ℕ → ℕ
+counted waiting size = if nat_lt 65536 size then size else waiting
+
+-- the bytes of memory that count for what came
+abbrev pub held_in : Inbox → ℕ
+held_in i = counted (i.end - i.start) (vec_capacity i.bytes)
+
+-- the bytes of memory that count for what is to be written
+abbrev pub held_out : Outbox → ℕ
+held_out o = counted (vec_len o.first - o.sent) (vec_capacity o.first) + counted (vec_len o.second) (vec_capacity o.second)
 
 module _ {S : Type 0} where
   -- The stream took some bytes off the front of what waited, and the rest still waits.

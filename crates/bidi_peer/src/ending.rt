@@ -1,9 +1,11 @@
 //! How a connection ends, and how its end is told.
-ghost use Rattle.std.specs.Prelude.{◌≡◌, ◌≢◌, ◌≤◌, ◌+◌, ◌↔◌, [], length, IsTrue, OnErr, OnOk};
+ghost use Rattle.std.specs.Prelude.{◌≡◌, ◌≢◌, ◌≤◌, ◌<◌, ◌+◌, ◌-◌, ◌^◌, ◌↔◌, ◌++◌, [], length, min, IsTrue, OnErr, OnOk};
 ghost use Rattle.bidi_peer.specs.Ends.{IsWordless, LearnsEnd};
 ghost use Rattle.bidi_peer.specs.Telling.{HasEnded, IsCut, IsInHandshake, IsQuiet, IsTimely, IsUnclosed, SameKnown, StaysKnown, StaysUnlessFailed, TellsOnce, owed};
 ghost use Rattle.bidi_peer.specs.Waiting.{untaken, unwritten};
-ghost use Rattle.bidi_peer.specs.Sending.{KeepsWhatCame};
+ghost use Rattle.bidi_peer.specs.Closing.{closing_code, code_of, reason_of};
+ghost use Rattle.bidi_peer.specs.Sending.{KeepsWhatCame, SendsClose, close_frame};
+ghost use Rattle.bidi_peer.specs.declared.framing.Fault.TheVariants.{Crowded};
 ghost use Rattle.bidi_peer.specs.declared.peer.Came.TheVariants.{Ended, Nothing};
 ghost use Rattle.bidi_peer.specs.declared.standing.End.TheVariants.{Due, Known};
 ghost use Rattle.bidi_peer.specs.declared.standing.State.TheVariants.{Closing, Done, Failed, Leaving, Open};
@@ -30,6 +32,8 @@ impl<S: Read + Write + Drop> Peer<S> {
         ensures ok { OnOk result (self.new.state ≢ Open) }
         // An open connection is now closing, unless its stream failed.
         ensures closes { self.old.state ≡ Open → OnOk result (StaysUnlessFailed Closing self.new.state) }
+        // The close frame follows everything that waited to be written, unless the stream failed.
+        ensures sends { self.old.state ≡ Open → OnOk result (SendsClose S.contents (closing_code cause) [] self.old self.new) }
         // A connection in its handshake is over, and the caller knows it.
         ensures handshake { IsInHandshake self.old.state → (self.new.state ≡ Done) × (self.new.end ≡ Known) }
         // At any other time this call does not report the end.
@@ -41,8 +45,8 @@ impl<S: Read + Write + Drop> Peer<S> {
     {
         match self.state {
             State::Head | State::Asked(_) | State::Called => {
-                self.end = End::Known;
                 self.cut();
+                self.end = End::Known;
             }
             State::Open => {
                 self.put_close(cause.code(), "")?;
@@ -72,6 +76,9 @@ impl<S: Read + Write + Drop> Peer<S> {
         ensures forgets { OnOk result ((untaken self.new.inbox ≡ []) × (self.new.fragments ≡ 0)) }
         // Unless more came than waited to be written, nothing waits any more.
         ensures frees { length (untaken self.old.inbox) + self.old.fragments ≤ length (unwritten self.old.outbox) → OnOk result (unwritten self.new.outbox ≡ []) }
+        // If more came, a close frame follows everything that waited to be written, unless the stream failed.
+        ensures sends { self.old.state ≡ Open → length (unwritten self.old.outbox) < min (length (untaken self.old.inbox) + self.old.fragments) (2 ^ 64 - 1)
+            → OnOk result (SendsClose S.contents (code_of Crowded) (reason_of Crowded) self.old self.new) }
         // If it was not open, nothing more is read or written.
         ensures cut { self.old.state ≢ Open → self.new.state ≡ Done }
         // In the handshake the caller knows the end.
@@ -87,8 +94,8 @@ impl<S: Read + Write + Drop> Peer<S> {
                 self.forget();
             }
             State::Head | State::Asked(_) | State::Called => {
-                self.end = End::Known;
                 self.cut();
+                self.end = End::Known;
             }
             State::Open | State::Closing | State::Leaving | State::Done | State::Failed(_) =>
                 self.cut(),
@@ -103,6 +110,7 @@ impl<S: Read + Write + Drop> Peer<S> {
         ensures ok { OnOk result (StaysUnlessFailed Closing self.new.state) }
         ensures err { OnErr result (self.new.state ≡ self.old.state) }
         ensures came { OnErr result (KeepsWhatCame self.old self.new) }
+        ensures sends { self.old.state ≡ Open → OnOk result (SendsClose S.contents (code_of fault) (reason_of fault) self.old self.new) }
     {
         self.put_close(fault.code(), fault.reason())?;
         self.owe_end();
@@ -117,6 +125,7 @@ impl<S: Read + Write + Drop> Peer<S> {
         ensures ok { OnOk result (self.new.state ≡ Closing) }
         ensures err { OnErr result (self.new.state ≡ self.old.state) }
         ensures came { OnErr result (KeepsWhatCame self.old self.new) }
+        ensures puts { self.old.state ≡ Open → OnOk result ((self.new.stream ≡ self.old.stream) × (unwritten self.new.outbox ≡ unwritten self.old.outbox ++ close_frame code reason.now)) }
     {
         write_close(&mut self.context, code, reason, &mut self.outbox.second)?;
         self.state = State::Closing;
@@ -125,6 +134,7 @@ impl<S: Read + Write + Drop> Peer<S> {
 
     /// Tells the end, unless the caller knows it.
     pub(crate) fn tell_end(&mut self) -> Came
+        requires { IsUnclosed self.old.state → ⊥ }
         ensures known { self.new.end ≡ Known }
         ensures tells_once { TellsOnce self.old.end self.new.end result }
         ensures timely { IsTimely self.new.state result }
@@ -212,8 +222,9 @@ impl<S: Read + Write + Drop> Peer<S> {
         ensures outbox { unwritten self.new.outbox ≡ unwritten self.old.outbox }
         ensures forgets { (untaken self.new.inbox ≡ []) × (self.new.fragments ≡ 0) }
     {
-        self.owe_end();
+        let end = self.end.owed();
         self.state = state;
+        self.end = end;
         self.forget();
     }
 
@@ -234,13 +245,24 @@ impl<S: Read + Write + Drop> Peer<S> {
 
     /// The next take tells the end, unless the caller knows it.
     pub(crate) fn owe_end(&mut self)
+        requires { IsUnclosed self.old.state → ⊥ }
         ensures end { self.new.end ≡ owed self.old.end }
         ensures state { self.new.state ≡ self.old.state }
         ensures outbox { unwritten self.new.outbox ≡ unwritten self.old.outbox }
         ensures stream { self.new.stream ≡ self.old.stream }
     {
-        if self.end == End::Ahead {
-            self.end = End::Due;
+        self.end = self.end.owed();
+    }
+}
+
+impl End {
+    /// The end once nothing more is read: the next take tells it, unless the caller knows it.
+    pub(crate) fn owed(self) -> End
+        ensures { result ≡ owed self }
+    {
+        match self {
+            End::Ahead | End::Due => End::Due,
+            End::Known => End::Known,
         }
     }
 }

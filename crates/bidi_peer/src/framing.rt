@@ -2,7 +2,8 @@
 ghost use Rattle.std.specs.Prelude.{◌≡◌, ◌+◌, ◌-◌, ◌^◌, ◌++◌, drop, length, min, IfOk, IfSome, OnErr, OnOk, option_map};
 ghost use Rattle.websocket.specs.FrameHeader.{extended_len};
 ghost use Rattle.websocket.specs.declared.protocol.config.Role.TheVariants.{Server};
-ghost use Rattle.bidi_peer.specs.Sending.{bytes_frame, text_frame};
+ghost use Rattle.bidi_peer.specs.Sending.{bytes_frame, close_frame, text_frame};
+ghost use Rattle.websocket.specs.declared.protocol.state.WebSocketState.TheVariants.{Active};
 ghost use Rattle.websocket.specs.Connection.{read_step};
 ghost use Rattle.bidi_peer.specs.Taking.{HasTaken, IsFaultOf, IsTakenFor, Shows};
 ghost use Rattle.bidi_peer.specs.Waiting.{untaken};
@@ -206,6 +207,7 @@ pub(crate) fn write_close(
     output: &mut Vec<u8>,
 ) -> Result<(), AllocError>
     ensures role { context.new.role ≡ context.old.role }
+    ensures joins { OnOk result (context.old.role ≡ Server → context.old.state ≡ Active → output.new.items ≡ output.old.items ++ close_frame code reason.now) }
     ensures err { OnErr result (context.new ≡ context.old) }
 {
     let frame = CloseFrame { code, reason };

@@ -22,7 +22,8 @@ impl<S: Read + Write + Drop> Peer<S> {
     /// Reads until a request is whole, or its head if it asks for a WebSocket.
     #[tactic(auto, using(crate::proofs::HearingLemmas::heard_then, crate::proofs::HearingLemmas::receives_then, crate::proofs::HearingLemmas::receives_nothing))]
     pub(crate) fn read_request(&mut self) -> Result<Came, AllocError>
-        requires { HasEnded self.old.state → ⊥ }
+        requires reads { HasEnded self.old.state → ⊥ }
+        requires ahead { self.old.end ≡ Ahead }
         ensures stays_known { StaysKnown self.old.end self.new.end }
         ensures tells_once { IfOk result (TellsOnce self.old.end self.new.end) }
         ensures told { OnOk result (HasEnded self.new.state → self.new.end ≡ Known) }
@@ -48,6 +49,7 @@ impl<S: Read + Write + Drop> Peer<S> {
     #[tactic(auto, using(crate::proofs::HearingLemmas::answer_heard, crate::proofs::HearingLemmas::owed_unknown))]
     fn hear(&mut self, asked: Asked) -> Result<Option<Came>, AllocError>
         requires reads { HasEnded self.old.state → ⊥ }
+        requires ahead { self.old.end ≡ Ahead }
         requires asks { IsAskedBy (untaken self.old.inbox) asked }
         ensures stays_known { StaysKnown self.old.end self.new.end }
         ensures tells_once { IfOk result (MayTell self.old.end self.new.end) }

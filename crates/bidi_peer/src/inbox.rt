@@ -1,8 +1,9 @@
 //! Bytes that came and were not taken yet.
 ghost use Rattle.std.specs.Prelude.{◌≡◌, ◌≤◌, ◌<◌, ◌+◌, [], drop, length, take, vec_len, IfOk, OnErr, OnOk};
 ghost use Rattle.std.specs.Io.KnownBytes.{Consumes, IsAtEnd, Keeps};
-ghost use Rattle.bidi_peer.specs.Waiting.{IsFilled, Reads, untaken};
+ghost use Rattle.bidi_peer.specs.Waiting.{IsFilled, Reads, held_in, untaken};
 
+use super::counting::counted;
 use super::stream::{Failure, Stop, read};
 use super::waiting::Inbox;
 use std::alloc::{AllocError, Global};
@@ -45,6 +46,13 @@ impl Inbox {
         ensures { result.now ≡ untaken self.now }
     {
         &self.bytes[self.start..self.end]
+    }
+
+    /// How many bytes of memory count for what waits.
+    pub(crate) fn held(&self) -> usize
+        ensures { result ≡ held_in self.now }
+    {
+        counted(self.end - self.start, self.bytes.capacity())
     }
 
     /// Takes so many bytes off the front, or all where there are fewer.

@@ -14,6 +14,7 @@
 //! - [`Peer::held`] counts the bytes that it holds, and [`Peer::shed`] fails it where the host holds too much.
 #![tactic(auto)]
 
+mod counting;
 mod ending;
 mod framing;
 mod handshake;

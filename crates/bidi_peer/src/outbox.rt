@@ -1,15 +1,13 @@
 //! Bytes that wait to be written.
-ghost use Rattle.std.specs.Prelude.{◌≡◌, ◌<◌, ◌↔◌, ◌++◌, [], drop, length, IsTrue, OnOk};
-ghost use Rattle.bidi_peer.specs.Waiting.{Writes, unwritten};
+ghost use Rattle.std.specs.Prelude.{◌≡◌, ◌<◌, ◌↔◌, ◌-◌, ◌^◌, ◌++◌, [], drop, length, min, IsTrue, OnOk};
+ghost use Rattle.bidi_peer.specs.Waiting.{Writes, held_out, unwritten};
 
+use super::counting::{KEPT, counted};
 use super::stream::{Failure, Stop, write};
 use super::waiting::Outbox;
 use std::alloc::{AllocError, Global};
 use std::io::Write;
 use std::mem;
-
-/// How many bytes there is room for at most while nothing waits.
-const ROOM: usize = 64 * 1024;
 
 impl Outbox {
     /// An empty one. Takes no memory.
@@ -31,11 +29,34 @@ impl Outbox {
         (self.first.len() - self.sent).saturating_add(self.second.len())
     }
 
+    /// How many bytes of memory count for what waits.
+    pub(crate) fn held(&self) -> usize
+        ensures { result ≡ min (held_out self.now) (2 ^ 64 - 1) }
+    {
+        let first = counted(self.first.len() - self.sent, self.first.capacity());
+        first.saturating_add(counted(self.second.len(), self.second.capacity()))
+    }
+
     /// Whether no byte waits.
     pub(crate) fn is_empty(&self) -> bool
         ensures { IsTrue result ↔ (unwritten self.now ≡ []) }
     {
         self.len() == 0
+    }
+
+    /// Makes room for so many bytes behind what waits.
+    ///
+    /// A block of more than 64 KiB grows by an eighth at most, unless more bytes are asked for, so that little of it is
+    /// unused.
+    pub(crate) fn make_room(&mut self, more: usize) -> Result<(), AllocError>
+        ensures { unwritten self.new ≡ unwritten self.old }
+    {
+        let len = self.second.len();
+        if more <= self.second.capacity() - len {
+            return Ok(());
+        }
+        let growth = if len > KEPT { len / 8 } else { len };
+        self.second.reserve_exact(more.max(growth))
     }
 
     /// Puts bytes behind what waits.
@@ -90,7 +111,7 @@ impl Outbox {
         if self.sent == self.first.len() {
             self.sent = 0;
             self.first.clear();
-            if self.first.capacity() > ROOM {
+            if self.first.capacity() > KEPT {
                 self.first = Vec::new(self.alloc);
             }
             mem::swap(&mut self.first, &mut self.second);

@@ -6,7 +6,7 @@ ghost use Rattle.bidi_peer.specs.Ends.{IsClosing, IsUnread, IsWordless, LearnsEn
 ghost use Rattle.bidi_peer.specs.Hearing.{IsHeard};
 ghost use Rattle.bidi_peer.specs.Messages.{IsFresh, IsTold};
 ghost use Rattle.bidi_peer.specs.Telling.{HasEnded, IsCut, IsNew, IsOver, IsTimely, StaysKnown, TellsOnce};
-ghost use Rattle.bidi_peer.specs.Waiting.{untaken, unwritten};
+ghost use Rattle.bidi_peer.specs.Waiting.{held_in, held_out, untaken, unwritten};
 ghost use Rattle.bidi_peer.specs.declared.peer.Came.TheVariants.{Ended, Nothing};
 ghost use Rattle.bidi_peer.specs.declared.standing.End.TheVariants.{Ahead, Due, Known};
 ghost use Rattle.bidi_peer.specs.declared.standing.State.TheVariants.{Closing, Done, Open};
@@ -64,8 +64,10 @@ impl<S: Read + Write + Drop> Peer<S> {
         ensures stream { result.stream ≡ stream }
         // No bytes have come, and none wait to be written.
         ensures empty { (untaken result.inbox ≡ []) × (unwritten result.outbox ≡ []) }
-        // No head is there.
-        ensures least { result.least ≡ 0 }
+        // No head is there, and no part of a message.
+        ensures least { (result.least ≡ 0) × (result.fragments ≡ 0) }
+        // At most 64 MiB wait to be written.
+        ensures bound { result.most_waiting ≡ 67108864 }
     {
         Peer::with_bound(alloc, stream, MOST_WAITING)
     }
@@ -78,8 +80,10 @@ impl<S: Read + Write + Drop> Peer<S> {
         ensures stream { result.stream ≡ stream }
         // No bytes have come, and none wait to be written.
         ensures empty { (untaken result.inbox ≡ []) × (unwritten result.outbox ≡ []) }
-        // No head is there.
-        ensures least { result.least ≡ 0 }
+        // No head is there, and no part of a message.
+        ensures least { (result.least ≡ 0) × (result.fragments ≡ 0) }
+        // At most so many bytes wait to be written.
+        ensures bound { result.most_waiting ≡ most_waiting }
     {
         Peer {
             alloc,
@@ -158,13 +162,16 @@ impl<S: Read + Write + Drop> Peer<S> {
         }
     }
 
-    /// How many bytes the connection holds: what came and was not told yet, also the parts of a message whose end has not
-    /// come, and what waits to be written.
+    /// How many bytes of memory the connection holds: for what came and was not reported yet, also the parts of a message
+    /// whose end has not come, and for what waits to be written.
+    ///
+    /// A block of memory that may be kept for later, of at most 64 KiB, counts by the bytes that wait in it.
     pub fn held(&self) -> usize
-        // It adds the bytes that wait to be taken, those of an unfinished message, and those that wait to be written.
-        ensures { result ≡ min (length (untaken self.now.inbox) + self.now.fragments + length (unwritten self.now.outbox)) (2 ^ 64 - 1) }
+        // It adds the memory for the bytes that wait to be taken, the payload of an unfinished message, and the memory for the bytes that wait to be written.
+        ensures { result ≡ min (held_in self.now.inbox + self.now.fragments + held_out self.now.outbox) (2 ^ 64 - 1) }
     {
-        self.came().saturating_add(self.outbox.len())
+        let came = self.inbox.held().saturating_add(self.fragments);
+        came.saturating_add(self.outbox.held())
     }
 
     /// How many bytes came and were not told yet.

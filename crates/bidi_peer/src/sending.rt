@@ -1,6 +1,6 @@
 //! What a connection sends: texts, as far as there is room and the stream takes them.
 ghost use Rattle.std.specs.Prelude.{◌≡◌, ◌≢◌, ◌≤◌, ◌<◌, ◌⊎◌, ◌+◌, length, IsFalse, IsTrue, OnErr, OnOk};
-ghost use Rattle.bidi_peer.specs.Sending.{Flushes, HasNoRoom, IsLittle, KeepsWhatCame, Puts, PutsFrame, SendsBytes, SendsText, bytes_frame, write_from};
+ghost use Rattle.bidi_peer.specs.Sending.{Flushes, HasNoRoom, IsLittle, KeepsWhatCame, Puts, PutsFrame, SendsBytes, SendsText, bytes_frame, text_frame, write_from};
 ghost use Rattle.bidi_peer.specs.Telling.{HasFailed, SameKnown, StaysUnlessFailed};
 ghost use Rattle.bidi_peer.specs.Waiting.{unwritten};
 ghost use Rattle.bidi_peer.specs.declared.standing.State.TheVariants.{Open};
@@ -34,9 +34,9 @@ impl<S: Read + Write + Drop> Peer<S> {
         // If the connection was open and still is, the bytes that came and the state of the protocol are unchanged.
         ensures came { self.old.state ≡ Open → self.new.state ≡ Open → KeepsWhatCame self.old self.new }
         // A short text waits, and the stream is not used.
-        ensures waits { self.old.state ≡ Open → IsLittle text.now self.old → OnOk result ((self.new.state ≡ Open) × Puts text.now self.old self.new) }
+        ensures waits { self.old.state ≡ Open → IsLittle (text_frame text.now) self.old → OnOk result ((self.new.state ≡ Open) × Puts text.now self.old self.new) }
         // An open connection stays open, unless its stream failed or the text has no room.
-        ensures gives_up { self.old.state ≡ Open → OnOk result (StaysUnlessFailed Open self.new.state ⊎ HasNoRoom S.contents text.now self.old self.new) }
+        ensures gives_up { self.old.state ≡ Open → OnOk result (StaysUnlessFailed Open self.new.state ⊎ HasNoRoom S.contents (text_frame text.now) self.old self.new) }
         // After an error the state is unchanged, unless the stream failed.
         ensures err { OnErr result (StaysUnlessFailed self.old.state self.new.state) }
     {
@@ -49,7 +49,7 @@ impl<S: Read + Write + Drop> Peer<S> {
             self.give_up(Fault::Slow)?;
             return Ok(());
         }
-        self.put_text(text)?;
+        self.put_text(frame, text)?;
         self.write_much();
         Ok(())
     }
@@ -69,6 +69,10 @@ impl<S: Read + Write + Drop> Peer<S> {
         ensures sends { self.old.state ≡ Open → OnOk result (self.new.state ≡ Open → SendsBytes S.contents bytes.now self.old self.new) }
         // If the connection was open and still is, the bytes that came and the state of the protocol are unchanged.
         ensures came { self.old.state ≡ Open → self.new.state ≡ Open → KeepsWhatCame self.old self.new }
+        // A short message waits, and the stream is not used.
+        ensures waits { self.old.state ≡ Open → IsLittle (bytes_frame bytes.now) self.old → OnOk result ((self.new.state ≡ Open) × PutsFrame (bytes_frame bytes.now) self.old self.new) }
+        // An open connection stays open, unless its stream failed or the message has no room.
+        ensures gives_up { self.old.state ≡ Open → OnOk result (StaysUnlessFailed Open self.new.state ⊎ HasNoRoom S.contents (bytes_frame bytes.now) self.old self.new) }
         // After an error the state is unchanged, unless the stream failed.
         ensures err { OnErr result (StaysUnlessFailed self.old.state self.new.state) }
     {
@@ -81,7 +85,7 @@ impl<S: Read + Write + Drop> Peer<S> {
             self.give_up(Fault::Slow)?;
             return Ok(());
         }
-        self.put_bytes(bytes)?;
+        self.put_bytes(frame, bytes)?;
         self.write_much();
         Ok(())
     }
@@ -107,25 +111,27 @@ impl<S: Read + Write + Drop> Peer<S> {
         self.outbox.len().saturating_add(frame) <= self.most_waiting
     }
 
-    // Puts the frame of a text behind what waits.
-    fn put_text(&mut self, text: &str) -> Result<(), AllocError>
+    // Puts the frame of a text, of this length, behind what waits.
+    fn put_text(&mut self, frame: usize, text: &str) -> Result<(), AllocError>
         requires { self.old.state ≡ Open }
         ensures puts { OnOk result (Puts text.now self.old self.new) }
         ensures came { KeepsWhatCame self.old self.new }
         ensures state { self.new.state ≡ self.old.state }
         ensures end { self.new.end ≡ self.old.end }
     {
+        self.outbox.make_room(frame)?;
         write_text(&mut self.context, text, &mut self.outbox.second)
     }
 
-    // Puts the frame of a binary message behind what waits.
-    fn put_bytes(&mut self, bytes: &[u8]) -> Result<(), AllocError>
+    // Puts the frame of a binary message, of this length, behind what waits.
+    fn put_bytes(&mut self, frame: usize, bytes: &[u8]) -> Result<(), AllocError>
         requires { self.old.state ≡ Open }
         ensures puts { OnOk result (PutsFrame (bytes_frame bytes.now) self.old self.new) }
         ensures came { KeepsWhatCame self.old self.new }
         ensures state { self.new.state ≡ self.old.state }
         ensures end { self.new.end ≡ self.old.end }
     {
+        self.outbox.make_room(frame)?;
         write_bytes(&mut self.context, bytes, &mut self.outbox.second)
     }
 

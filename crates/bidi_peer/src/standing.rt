@@ -1,6 +1,6 @@
 //! Where a connection stands.
 ghost use Rattle.std.specs.Prelude.{◌≡◌, ◌≢◌, []};
-ghost use Rattle.bidi_peer.specs.Telling.{HasEnded, IsCut};
+ghost use Rattle.bidi_peer.specs.Telling.{HasEnded, IsCut, IsUnclosed};
 ghost use Rattle.bidi_peer.specs.Waiting.{unwritten};
 ghost use Rattle.bidi_peer.specs.declared.standing.End.TheVariants.{Ahead};
 ghost use Rattle.bidi_peer.specs.declared.standing.State.TheVariants.{Open};
@@ -61,6 +61,8 @@ pub struct Peer<S> {
     pub(crate) most_waiting: usize,
     // Nothing waits for a stream that is not written any more.
     ghost cut: { IsCut state → unwritten outbox ≡ [] },
+    // Until a close frame is sent or received, and until the stream ends, the end is ahead.
+    ghost ahead: { IsUnclosed state → end ≡ Ahead },
     // Where nothing more is read, the end was told, or the next take tells it.
     ghost owes: { HasEnded state → end ≢ Ahead },
     // The protocol of an open connection reads and writes.

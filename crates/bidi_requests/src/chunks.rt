@@ -90,7 +90,7 @@ fn step_at(bytes: &[u8], room: usize) -> Step
 {
     match parse_chunk_size(bytes) {
         Ok(Status::Complete((start, size))) => {
-            if is_extended_at(bytes, start, size) {
+            if is_extended_at(bytes, start) {
                 sized_at(bytes, start, size, room)
             } else {
                 Step::Refused(Answer::BadBody)
@@ -102,11 +102,10 @@ fn step_at(bytes: &[u8], room: usize) -> Step
 }
 
 // Whether the line of a chunk, which ends here, has extensions or none behind its size.
-fn is_extended_at(bytes: &[u8], start: usize, size: u64) -> bool
-    requires line { (l : ChunkLine) × IsChunkLineAt bytes.now start size l }
-    ensures { (l : ChunkLine) → IsChunkLineAt bytes.now start size l → IsTrue result ↔ AreExtensions (behind_size l) }
+fn is_extended_at(bytes: &[u8], start: usize) -> bool
+    requires line { (size : ℕ) × (l : ChunkLine) × IsChunkLineAt bytes.now start size l }
+    ensures { (size : ℕ) (l : ChunkLine) → IsChunkLineAt bytes.now start size l → IsTrue result ↔ AreExtensions (behind_size l) }
 {
-    let _ = size;
     let (line, _) = bytes.split_at(start - 2);
     is_extended(line)
 }

@@ -11,4 +11,4 @@ returns-in-Err c = inl (never-line c.args.bytes.now c.in-Err.ensures.invalid)
 pub returns-else-is_extended_at : goal.returns-else-is_extended_at
 returns-else-is_extended_at c =
     let line = rw c.in-Ok-Complete.field-0-is at c.in-Ok-Complete.ensures.complete in
-    inl (no-extensions c.args.bytes.now c.in-Ok-Complete.start c.in-Ok-Complete.size line.0 line.1 (λ ext. let no : false ≡ true = sym c.if-is_extended_at.false ∙ (c.is_extended_at.ensures line.0 line.1).1 ext in cc))
+    inl (no-extensions c.args.bytes.now c.in-Ok-Complete.start c.in-Ok-Complete.size line.0 line.1 (λ ext. let no : false ≡ true = sym c.if-is_extended_at.false ∙ (c.is_extended_at.ensures c.in-Ok-Complete.size line.0 line.1).1 ext in cc))

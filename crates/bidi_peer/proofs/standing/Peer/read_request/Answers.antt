@@ -21,14 +21,14 @@ loop-preserved g c =
           receives_then remaining g.S.Write.contents first read w.hear.new.self came (w.in_ok-came-2.ensures.part (search rules)) in
           rw w.self-is (record {
             known = (λ k. heard.end ∙ k, λ k. sym heard.end ∙ k);
-            reads = subst (λ s. HasEnded s → ⊥) (sym heard.state) c.requires;
+            reads = subst (λ s. HasEnded s → ⊥) (sym heard.state) c.requires.reads;
             receives = heard;
             waits = λ was. w.in_ok-came-2.ensures.unfinished (search rules);
           })
       | else-is_to_judge w ↦
           rw w.self-is (record {
             known = (λ k. came.end ∙ k, λ k. sym came.end ∙ k);
-            reads = subst (λ s. HasEnded s → ⊥) (sym came.state) c.requires;
+            reads = subst (λ s. HasEnded s → ⊥) (sym came.state) c.requires.reads;
             receives = came;
             waits = λ was.
                 let reads = (c.in_ok-came.ensures.receives (search rules)).reads in
@@ -62,3 +62,9 @@ returns-clause-heard g c = λ ahead. (c.loop.invariant.receives, c.loop.invarian
 
 pub hear-requires-clause-asks : goal.hear-requires-clause-asks
 hear-requires-clause-asks g c = subst (λ b. IsAskedBy b c.in_ok-asked.asked) c.waiting-then-is_to_judge.ensures c.in_ok-asked.ensures
+
+pub hear-requires-clause-ahead : goal.hear-requires-clause-ahead
+hear-requires-clause-ahead g c =
+    let came : Receives g.S.Read.remaining c.args.self.now c.read_on.new.self =
+    receives_then g.S.Read.remaining g.S.Write.contents c.args.self.now c.loop.self c.read_on.new.self c.loop.invariant.receives (c.in_ok-came.ensures.receives (search rules)) in
+    came.end ∙ c.requires.ahead

@@ -6,13 +6,14 @@ use Rattle.bidi_peer.proofs.standing.Peer.send.Goals as goal
 pub returns-then-not-has_room-clause-gives_up : goal.returns-then-not-has_room-clause-gives_up
 returns-then-not-has_room-clause-gives_up g c =
     λ was.
-    no_room g.S.Write.contents c.args.text.now c.args.self.now c.make_room.new.self c.give_up.new.self c.make_room.ensures.flushes
+    no_room g.S.Write.contents (text_frame c.args.text.now) c.args.self.now c.make_room.new.self c.give_up.new.self c.make_room.ensures.flushes
     (c.is_open.ensures.0 c.if-not-is_open.false) (omega (arith, c.has_room.ensures.full c.if-not-has_room.true, c.frame_len-frame.ensures)) c.in_ok-give_up.ensures.ok
+    (c.in_ok-give_up.ensures.sends (c.is_open.ensures.0 c.if-not-is_open.false))
 
 pub returns-clause-waits : goal.returns-clause-waits
 returns-clause-waits g c =
     λ was little.
-    waited c.args.text.now c.args.self.now c.make_room.new.self c.put_text.new.self c.write_much.new.self
+    waited (text_frame c.args.text.now) c.args.self.now c.make_room.new.self c.put_text.new.self c.write_much.new.self
     (c.make_room.ensures.room (omega (arith, c.frame_len-frame.ensures, little.0))) c.in_ok-put_text.ensures.puts c.put_text.ensures.state c.write_much.ensures.little was little
 
 pub returns-clause-sends : goal.returns-clause-sends
