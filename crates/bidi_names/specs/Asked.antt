@@ -105,8 +105,8 @@ wanted known command params =
     (ids_of (get (codes "userContexts") params))
 
 -- what a command with these params asks with the names that it lists, whatever its scope
-abbrev pub unwanted : List (List ℕ) → Command → Json → Option Wanted
-unwanted known command params = wanted_with known command (option_and_then listed (get (codes "events") params)) (Some None) (Some None)
+abbrev pub wanted_anywhere : List (List ℕ) → Command → Json → Option Wanted
+wanted_anywhere known command params = wanted_with known command (option_and_then listed (get (codes "events") params)) (Some None) (Some None)
 
 -- what a command to unsubscribe asks, with the subscriptions that it lists, if it lists any
 abbrev pub ended_or : ℕ → Option (List (List ℕ)) → Option Wanted → Option Asked
@@ -121,7 +121,7 @@ ids_listed params = option_and_then some_ids (option_and_then listed (get (codes
 abbrev pub asked_with : List (List ℕ) → Command → Json → Option Asked
 asked_with known command params =
     if bytes_eq command.method (codes "session.subscribe") then option_map Subscribes (wanted known command params)
-    else if bytes_eq command.method (codes "session.unsubscribe") then ended_or command.id (ids_listed params) (unwanted known command params)
+    else if bytes_eq command.method (codes "session.unsubscribe") then ended_or command.id (ids_listed params) (wanted_anywhere known command params)
     else None
 
 -- what a command asks

@@ -8,7 +8,7 @@ ghost use Rattle.bidi_rows.specs.Command.{command_in};
 ghost use Rattle.bidi_rows.specs.Rows.{compact};
 ghost use Rattle.bidi_rows.specs.View.{command_seen};
 ghost use Rattle.bidi_names.specs.Names.{is_foreign, is_module};
-ghost use Rattle.bidi_names.specs.Asked.{strings_of, listed, ids_listed, ids_of, strings_text, ids_text, names_text, text_without, ending_text, wanted, unwanted, wanted_of_names, ended_or, asked_with, asked_by, asked_of};
+ghost use Rattle.bidi_names.specs.Asked.{strings_of, listed, ids_listed, ids_of, strings_text, ids_text, names_text, text_without, ending_text, wanted, wanted_anywhere, wanted_of_names, ended_or, asked_with, asked_by, asked_of};
 ghost use Rattle.bidi_names.specs.View.{texts_of, ids_seen, wanted_of, asked_seen};
 
 use crate::names::{is_foreign, is_module};
@@ -132,13 +132,13 @@ fn unsubscribe_asked(
     known: &[String],
 ) -> Result<Option<NamesAsked>, AllocError>
     ensures { IfOk result (λ asked. option_map asked_seen asked ≡ ended_or (command_seen command.now).id (ids_listed (value_view params.now))
-        (unwanted (texts_of known.now) (command_seen command.now) (value_view params.now))) }
+        (wanted_anywhere (texts_of known.now) (command_seen command.now) (value_view params.now))) }
 {
     let id = command.id;
     if let Some(ids) = ids_listed(alloc, params)? {
         return Ok(Some(NamesAsked::End(IdsWanted { id, ids })));
     }
-    let wanted = names_unwanted(alloc, command, params, known)?;
+    let wanted = names_wanted_anywhere(alloc, command, params, known)?;
     Ok(wanted.map(NamesAsked::Unsubscribe))
 }
 
@@ -163,13 +163,13 @@ fn are_none(names: &[String]) -> bool
 }
 
 // What a command with these params asks with the names that they list, whatever its scope.
-fn names_unwanted(
+fn names_wanted_anywhere(
     alloc: Global,
     command: &Command<'_, '_>,
     params: &Value<'_>,
     known: &[String],
 ) -> Result<Option<NamesWanted>, AllocError>
-    ensures { IfOk result (λ found. option_map wanted_of found ≡ unwanted (texts_of known.now) (command_seen command.now) (value_view params.now)) }
+    ensures { IfOk result (λ found. option_map wanted_of found ≡ wanted_anywhere (texts_of known.now) (command_seen command.now) (value_view params.now)) }
 {
     let Some(names) = strings_at(alloc, params, "events")? else {
         return Ok(None);

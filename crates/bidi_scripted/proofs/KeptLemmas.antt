@@ -1,6 +1,6 @@
 -- What becomes of a message that asks for names of a test.
-use Rattle.std.proofs.Common.{◌≡◌, ◌∙◌, ◌<◌, ◌^◌, ℕ, suc, Bool, true, false, not, List, [], ◌∷◌, ◌++◌, map, length, Option, Some, None, Result, Ok, Err, IfOk, IfSome, refl, sym, ap, subst, arith}
-use Rattle.std.specs.Prelude.{◌==◌, if◌then◌else◌, MatchBool, OnOk}
+use Rattle.std.proofs.Common.{◌≡◌, ◌∙◌, ◌<◌, ◌^◌, ℕ, suc, Bool, true, false, not, List, [], ◌∷◌, map, length, Option, Some, None, Result, Ok, Err, IfOk, refl, sym, ap, subst, arith}
+use Rattle.std.specs.Prelude.{◌==◌, if◌then◌else◌, MatchBool, codes}
 use Rattle.std.specs.List.{list_all}
 use Rattle.std.proofs.lemmas.Bool.Decides.{nat_tests}
 use Rattle.std.proofs.lemmas.List.{length-map}
@@ -15,7 +15,7 @@ use Rattle.bidi_sessions.specs.declared.step.Sent as declared_sent
 use Rattle.bidi_sessions.proofs.ListLemmas.{some-same}
 use Rattle.bidi_remote.specs.Machine.History.{Input, Deed}
 use Rattle.bidi_remote.specs.Machine.Outcome.{deeds}
-use Rattle.bidi_remote.specs.Machine.Sent.{Sent, Text}
+use Rattle.bidi_remote.specs.Machine.Sent.{Text}
 use Rattle.bidi_remote.specs.State.Stands.{StandsFor}
 use Rattle.bidi_remote.specs.declared.remote_end.RemoteEnd.{RemoteEnd}
 use Rattle.bidi_remote.specs.declared.remote_end.RemoteFault.{RemoteFault}
@@ -24,12 +24,12 @@ use Rattle.bidi_names.specs.Asked.{Asked, Wanted, Subscribes, Unsubscribes, Ends
 use Rattle.bidi_handles.specs.Ids.{id_text}
 use Rattle.bidi_handles.specs.declared.id.IdKind.TheVariants.{Subscription}
 use Rattle.bidi_names.specs.Replies.{succeeded, Gives, AreNumbers, id_result}
-use Rattle.bidi_names.specs.Subscriptions.{Named, holds_globally, dismissed, cancelled, has_any}
+use Rattle.bidi_names.specs.Subscriptions.{Named, holds_globally, dismissed, cancelled}
 use Rattle.bidi_names.proofs.ReplyLemmas.{none_some}
 use Rattle.bidi_scripted.specs.Becomes.{IsHandedOn}
 use Rattle.bidi_scripted.specs.Script.{Script}
 use Rattle.bidi_remote.specs.Machine.Sessions.{sessions}
-use Rattle.bidi_scripted.specs.Kept.{Taking, next_alone, with_made, keeps_any, Hears, Refuses, Succeeds, Makes, Keeps, Leaves, HearsText, AnswersBy, Takes, IsNamed, has_room, part_or, scope_wanted, subscribing, unsubscribing, ending}
+use Rattle.bidi_scripted.specs.Kept.{Taking, next_alone, with_made, keeps_any, Hears, Refuses, Succeeds, Makes, Keeps, Leaves, HearsText, Takes, IsNamed, has_room, part_or, scope_wanted, subscribing, unsubscribing, ending}
 
 -- ---- what the machine heard
 
@@ -75,6 +75,12 @@ module _ (c : ℕ) (h : List Input) (s : ℕ) (asked : Option Asked) (end : Remo
   pub takes-as : (new : RemoteEnd) (after : Script) (a b : Taking) → a ≡ b → IfOk r (λ t. (t.held ≡ None) × Takes c h s asked end script new after t a)
       → IfOk r (λ t. (t.held ≡ None) × Takes c h s asked end script new after t b)
   takes-as new after a b e p = subst (λ x. IfOk r (λ t. (t.held ≡ None) × Takes c h s asked end script new after t x)) e p
+
+-- an empty result, after which what was asked is left so
+pub takes-succeeded : (c : ℕ) (h : List Input) (s : ℕ) (asked : Option Asked) (end : RemoteEnd) (script after : Script) (t : Taken) (id : ℕ)
+    → (t.held ≡ None) × (map sent_of t.sent.items ≡ Text c (reply_text id (ResultOf (codes "{}"))) ∷ []) × (t.is_of_machine ≡ false)
+    → Leaves s asked script after → (t.held ≡ None) × Takes c h s asked end script end after t (Succeeds id)
+takes-succeeded c h s asked end script after t id a leaves = (a.0, ((a.1, a.2, refl), leaves))
 
 -- ---- which way a command is taken
 

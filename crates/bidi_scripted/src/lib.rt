@@ -17,6 +17,7 @@
 //! a command that cannot be held.
 #![tactic(auto)]
 
+mod answering;
 mod calls;
 mod emitting;
 mod fault;
@@ -28,6 +29,8 @@ mod naming;
 mod row_table;
 mod script;
 mod scripted_end;
+mod subscribing;
+mod unsubscribing;
 
 pub use fault::ScriptFault;
 pub use script::HeldCommand;

@@ -1,5 +1,5 @@
 use Rattle.std.proofs.Common.{◌≡◌, ◌∙◌, ℕ, List, Some, length, string_bytes, sym, ap, subst, arith}
-use Rattle.std.specs.Prelude.{◌==◌, true, false, Vec, String}
+use Rattle.std.specs.Prelude.{◌==◌, true, false, String}
 use Rattle.std.specs.declared.alloc.Global.{Global}
 use Rattle.std.proofs.lemmas.List.{length-map}
 use Rattle.bidi_handles.specs.Ids.{id_text}

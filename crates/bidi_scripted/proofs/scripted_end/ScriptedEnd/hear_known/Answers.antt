@@ -1,5 +1,4 @@
-use Rattle.std.proofs.Common.{◌≡◌, ◌∙◌, None, Some, IfOk, sym, ap, subst}
-use Rattle.bidi_remote.specs.Machine.Outcome.{deeds}
+use Rattle.std.proofs.Common.{◌≡◌, ◌∙◌, None, IfOk, sym, ap, subst}
 use Rattle.bidi_scripted.specs.Kept.{IsNamed}
 use Rattle.bidi_scripted.specs.View.{script_of}
 use Rattle.bidi_scripted.proofs.FateLemmas.{with_err, anyhow}

@@ -2,7 +2,6 @@ use Rattle.std.proofs.Common.{◌≡◌, ◌∙◌, length, vec_len, sym, ap, ar
 use Rattle.bidi_scripted.specs.View.{script_of}
 use Rattle.bidi_scripted.proofs.AskLemmas.{no-names}
 use Rattle.bidi_scripted.proofs.FateLemmas.{with_err, anyhow}
-use Rattle.bidi_scripted.specs.Script.{Script}
 use Rattle.bidi_scripted.proofs.scripted_end.ScriptedEnd.hear_names.Goals as goal
 
 pub returns-then-is_empty-clause-plain : goal.returns-then-is_empty-clause-plain

@@ -1,4 +1,4 @@
-use Rattle.std.proofs.Common.{◌≡◌, ◌∙◌, None, ap, subst}
+use Rattle.std.proofs.Common.{◌∙◌, ap, subst}
 use Rattle.bidi_remote.specs.Machine.Outcome.{deeds}
 use Rattle.bidi_names.specs.View.{texts_of}
 use Rattle.bidi_scripted.specs.Kept.{Takes, asked_in, taking}

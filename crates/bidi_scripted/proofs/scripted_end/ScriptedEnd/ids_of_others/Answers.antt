@@ -1,5 +1,4 @@
 use Rattle.std.proofs.Common.{◌≡◌, ◌∙◌, map, IfOk, subst}
-use Rattle.bidi_remote.specs.Machine.Outcome.{deeds}
 use Rattle.bidi_names.specs.Subscriptions.{Named, named_of, unlisted, other_ids}
 use Rattle.bidi_names.specs.View.{texts_of}
 use Rattle.bidi_scripted.proofs.scripted_end.ScriptedEnd.ids_of_others.Goals as goal

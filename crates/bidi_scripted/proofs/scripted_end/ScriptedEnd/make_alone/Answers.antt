@@ -1,8 +1,7 @@
 use Rattle.std.proofs.Common.{◌∙◌, ◌++◌, ◌∷◌, [], map, suc}
-use Rattle.bidi_remote.specs.Machine.Outcome.{deeds}
 use Rattle.bidi_sessions.specs.SubscriptionView.{scope_of}
 use Rattle.bidi_names.specs.Subscriptions.{Named, named_of, of_active}
-use Rattle.bidi_names.specs.View.{texts_of, wanted_of}
+use Rattle.bidi_names.specs.View.{wanted_of}
 use Rattle.bidi_scripted.specs.View.{script_of}
 use Rattle.bidi_scripted.proofs.KeptLemmas.{takes-made}
 use Rattle.bidi_scripted.proofs.scripted_end.ScriptedEnd.make_alone.Goals as goal

@@ -1,4 +1,4 @@
-use Rattle.std.proofs.Common.{◌∙◌, string_bytes, sym, ap, subst}
+use Rattle.std.proofs.Common.{◌∙◌, ap, subst}
 use Rattle.bidi_sessions.specs.Step as steps
 use Rattle.bidi_remote.specs.Machine.History.{IsHeardAs}
 use Rattle.bidi_scripted.specs.Kept.{NamesAsked}

@@ -1,11 +1,11 @@
-use Rattle.std.proofs.Common.{◌≡◌, None, Some, Err, IfOk, sym, subst}
+use Rattle.std.proofs.Common.{Some, Err, sym, subst}
 use Rattle.bidi_remote.specs.Machine.Outcome.{deeds}
 use Rattle.bidi_handles.specs.declared.refusal.Refusal.{Refusal}
 use Rattle.bidi_sessions.specs.Checked.{IfChecked}
 use Rattle.bidi_sessions.specs.SubscriptionView.{scope_of}
 use Rattle.bidi_names.specs.Asked.{Subscribes}
 use Rattle.bidi_names.specs.View.{wanted_of}
-use Rattle.bidi_scripted.specs.Kept.{Takes, scope_wanted, subscribing}
+use Rattle.bidi_scripted.specs.Kept.{scope_wanted, subscribing}
 use Rattle.bidi_scripted.specs.View.{script_of}
 use Rattle.bidi_scripted.proofs.FateLemmas.{anyhow, anyway}
 use Rattle.bidi_scripted.proofs.KeptLemmas.{takes-refused, takes-as}

@@ -1,6 +1,5 @@
 use Rattle.std.proofs.Common.{◌≡◌, ◌∙◌, ◌++◌, ◌∷◌, [], Some, None, map, sym, ap, subst}
 use Rattle.std.specs.Prelude.{if◌then◌else◌}
-use Rattle.bidi_remote.specs.Machine.Outcome.{deeds}
 use Rattle.bidi_sessions.specs.SubscriptionView.{scope_of}
 use Rattle.bidi_names.specs.Asked.{Subscribes}
 use Rattle.bidi_names.specs.Subscriptions.{Named, named_of, of_active, has_any}
