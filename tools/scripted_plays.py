@@ -10,6 +10,7 @@ play --scripted` writes.
 import argparse
 import json
 import os
+import pathlib
 import random
 import re
 import subprocess
@@ -20,11 +21,10 @@ SESSION = "00000000-0001-8000-8000-00000000000"
 SUBSCRIPTION = "-0005-8000-8000-"
 EVENTS = ["browsingContext.contextCreated", "browsingContext.load", "log.entryAdded", "script.realmCreated"]
 MODULES = ["browsingContext", "log", "script", "session", "browser"]
-PROFILE = ["browsingContext.contextCreated", "browsingContext.contextDestroyed", "browsingContext.navigationStarted",
-           "browsingContext.fragmentNavigated", "browsingContext.historyUpdated", "browsingContext.domContentLoaded",
-           "browsingContext.load", "browsingContext.navigationAborted", "browsingContext.navigationCommitted",
-           "browsingContext.navigationFailed", "script.realmCreated", "script.realmDestroyed", "log.entryAdded"]
 FOREIGN = ["network", "network.beforeRequestSent", "foo.bar", "log.other", "browsingContext.other", "cdp.X:y"]
+FORMATS = pathlib.Path(__file__).resolve().parent.parent / "docs/FORMATS.md"
+# The events of the profile, from the table of the document.
+PROFILE = re.findall(r"(?m)^\| ([A-Za-z]+\.[A-Za-z]+) \|", FORMATS.read_text().split("\n## Table of events\n")[1].split("\n## ")[0])
 METHODS = ["session.status", "session.subscribe", "session.unsubscribe", "browsingContext.getTree", "foo.bar"]
 SYNC = 9007199254740991
 
@@ -83,6 +83,8 @@ class Test:
         self.open, self.lost = {}, set()
         # The live subscriptions: (session, id, names, scope), where the names are those of the profile and of the test.
         self.subscriptions, self.made = [], 0
+        # The ids of those that the machine ended, and of which a name of the test is left.
+        self.given_up = set()
         self.tabs = {TAB + "1"}
 
     # ---- what the machine does
@@ -156,18 +158,21 @@ class Test:
                 found.append(name)
         return found
 
-    def subscribe(self, conn, command, text):
+    def subscribe(self, conn, command):
         """A subscribe while names are known."""
         session, params = self.open[conn], command["params"]
         names = params["events"]
         fault = None
         if any(it not in PROFILE + MODULES and not self.is_foreign(it) for it in names):
             fault = "invalid argument"
+        elif "contexts" in params and "userContexts" in params:
+            fault = "invalid argument"
         elif "contexts" in params and not set(params["contexts"]) <= self.tabs:
             fault = "no such frame"
+        elif "userContexts" in params and not set(params["userContexts"]) <= {"default"}:
+            fault = "no such user context"
         if fault:
             return [self.refusal(conn, command["id"], fault)]
-        scope = params.get("contexts")
         others = [it for it in names if not self.is_foreign(it)]
         if others:
             written = self.run(f"> {conn} " + compact({**command, "params": {**params, "events": others}}))
@@ -176,10 +181,11 @@ class Test:
             self.made += 1
             number = f"{int(session[-12:], 16):08x}{SUBSCRIPTION}8{self.made:011x}"
             written = [f"< {conn} " + compact({"id": command["id"], "result": {"subscription": number}, "type": "success"})]
-        self.subscriptions.append((session, number, self.expanded(names), scope))
+        self.subscriptions.append((session, number, self.expanded(names), scope_of(params)))
         return written
 
-    def unsubscribe(self, conn, command, text):
+    def unsubscribe(self, conn, command):
+        """An unsubscribe while names are known."""
         session, params = self.open[conn], command["params"]
         mine = [it for it in self.subscriptions if it[0] == session]
         if "subscriptions" in params:
@@ -218,8 +224,6 @@ class Test:
             return self.run(f"> {conn} " + compact({**command, "params": {"events": others}}))
         return [self.success(conn, command["id"])]
 
-    given_up = frozenset()
-
     @staticmethod
     def success(conn, number):
         return f"< {conn} " + compact({"id": number, "result": {}, "type": "success"})
@@ -251,9 +255,9 @@ class Test:
                     return self.answered(conn, command["id"], row)
         if self.known and self.open[conn] is not None and fits(command):
             if command["method"] == "session.subscribe":
-                return self.subscribe(conn, command, text)
+                return self.subscribe(conn, command)
             if command["method"] == "session.unsubscribe":
-                return self.unsubscribe(conn, command, text)
+                return self.unsubscribe(conn, command)
         return self.plainly(conn, command, text)
 
     def plainly(self, conn, command, text):
@@ -264,7 +268,7 @@ class Test:
         if reply.get("type") == "success" and reply.get("id") == command["id"]:
             method, params = command["method"], command.get("params", {})
             if method == "session.subscribe":
-                self.subscriptions.append((session, reply["result"]["subscription"], self.expanded(params["events"]), params.get("contexts")))
+                self.subscriptions.append((session, reply["result"]["subscription"], self.expanded(params["events"]), scope_of(params)))
             elif method == "session.unsubscribe" and "subscriptions" in params:
                 self.subscriptions = [it for it in self.subscriptions if it[0] != session or it[1] not in params["subscriptions"]]
             elif method == "session.unsubscribe":
@@ -337,6 +341,11 @@ class Test:
         return []
 
 
+def scope_of(params):
+    """The scope of a subscription: tabs, the tabs of the default user context, or None for all."""
+    return "default" if "userContexts" in params else params.get("contexts")
+
+
 def read(text):
     """The command that a text is, if it is one."""
     try:
@@ -392,6 +401,8 @@ def message(r):
         params = {"events": r.sample(EVENTS + MODULES + FOREIGN * 3, r.randrange(1, 4))}
         if r.random() < 0.2:
             params["contexts"] = [TAB + r.choice("1129")]
+        if r.random() < 0.15:
+            params["userContexts"] = r.choice([["default"], ["default"], ["default", "other"], ["other"]])
         if r.random() < 0.05:
             params = r.choice([{"events": []}, {"events": ["foo.bar", 1]}, {"events": ["foo.bar"], "contexts": []}, {}])
     elif method == "session.unsubscribe":
@@ -433,7 +444,6 @@ def fault(program, r):
     if ran.returncode:
         return play, f"status {ran.returncode}: {ran.stderr.decode(errors='replace').strip()}"
     test = Test(program)
-    test.given_up = set()
     found, at = ran.stdout.decode().split("\n")[:-1], 0
     for number, line in enumerate(play):
         wanted = test.take(line)
