@@ -18,6 +18,7 @@ comment above the clause in the source.
 
 - Every call returns and does nothing undefined, if its `requires` hold. A call without a clause promises no more.
 - `requires` is what the caller has to show. `ensures` is what the caller then gets; the clause's name follows.
+- `sum` is a checksum of the clause, so that a review sees a clause that changes under its sentence.
 - `always` holds for each value of the type. `has` is a value of the logic that each type with the trait has, and that the clauses
   of the trait speak of.
 """
@@ -33,10 +34,11 @@ def table(crate):
     calls = sources.calls(crate)
     lines = [f"\n## {crate}\n", f"{sources.head_of(crate)}\n"]
     if calls:
-        lines += ["| call | clause | says | file |", "|---|---|---|---|"]
+        lines += ["| call | clause | says | sum | file |", "|---|---|---|---|---|"]
     for call in calls:
-        for _, kind, says, _ in rows(call):
-            lines.append(f"| `{call.title}` | {kind} | {sources.cell(says)} | {sources.link(call.path)} |")
+        for _, kind, says, clause in rows(call):
+            mark = sources.checksum(clause.text) if clause else ""
+            lines.append(f"| `{call.title}` | {kind} | {sources.cell(says)} | {mark} | {sources.link(call.path)} |")
     return lines
 
 

@@ -17,15 +17,15 @@ HEAD = """\
 
 What contracts compare the code with. `tools/definitions.py` makes this page from the files in `specs/`: the sentence is the comment
 above the definition, and the line below a file's name is the comment at its top, with the source in a standard if it has one.
-"Own" is a choice of this project. [ARCHITECTURE.md](ARCHITECTURE.md) explains the words, [THEOREMS.md](THEOREMS.md) the notation.
+"Own" is a choice of this project. `sum` is a checksum of the definition. [ARCHITECTURE.md](ARCHITECTURE.md) explains the words, [THEOREMS.md](THEOREMS.md) the notation.
 """
 
 
 def table(path, found):
-    lines = [f"\n### {sources.link(path)}\n", f"{sources.header(path)}\n", "| definition | says |", "|---|---|"]
+    lines = [f"\n### {sources.link(path)}\n", f"{sources.header(path)}\n", "| definition | says | sum |", "|---|---|---|"]
     for it in found:
-        example = f". Example: {it.example}" if it.example else ""
-        lines.append(f"| `{it.name}` | {sources.cell(it.says.rstrip('.') + example if example else it.says)} |")
+        says = f"{it.says.rstrip('.')}. Example: {it.example}" if it.example else it.says
+        lines.append(f"| `{it.name}` | {sources.cell(says)} | {sources.checksum(it.text)} |")
     return lines
 
 

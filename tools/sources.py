@@ -3,6 +3,7 @@
 Sources are laid out by `rt fmt`, so an item is known by its indent: a method stands four columns further in than its `impl`,
 a clause four further in than its call.
 """
+import hashlib
 import re
 from dataclasses import dataclass
 from functools import cache
@@ -322,6 +323,12 @@ def header(path):
 
 
 # ---- pages that a script makes
+
+def checksum(text):
+    """Six digits that change when a clause or a definition does. Comments, white space and line breaks do not count."""
+    words = " ".join(re.sub(r"^ *(--|//).*$", "", text, flags=re.M).split())
+    return hashlib.sha256(words.encode()).hexdigest()[:6]
+
 
 def cell(text):
     """A text as it stands in a table."""
