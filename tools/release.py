@@ -22,7 +22,7 @@ from pathlib import Path
 
 ROOT = Path(__file__).resolve().parent.parent
 OUT, DIST = ROOT / "crates/bidi/out", ROOT / "dist"
-DOCUMENTS = ["README.md", "CHANGELOG.md", "docs/FORMATS.md", "docs/TESTING.md", "docs/CHECKING.md", "docs/look.png"]
+DOCUMENTS = ["README.md", "CHANGELOG.md", "docs/FORMATS.md", "docs/TESTING.md", "docs/CHECKING.md", "docs/TROUBLESHOOTING.md", "docs/look.png"]
 CHECKED = b"__asan_"  # what only a program of `rt try`, which checks itself, has
 OPTION = re.compile(r" +(?:-(\w), |    )--([\w-]+)(?: <(\w+)>)? +(.*)")
 ARGUMENT = re.compile(r" +\[(\w+)\] +(.*)")

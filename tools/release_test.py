@@ -114,7 +114,7 @@ class ReleaseTest(unittest.TestCase):
         with tarfile.open(fileobj=io.BytesIO(data)) as tar:
             found = {it.name: (it.mode, tar.extractfile(it).read()) for it in tar}
         self.assertEqual(found["bidi-1.2.3/bin/bidi"], (0o755, PROGRAM.encode()))
-        for name in ["docs/FORMATS.md", "docs/TESTING.md", "docs/CHECKING.md", "examples/clients/pytest/conftest.py", "examples/clients/node/host.cjs",
+        for name in ["docs/FORMATS.md", "docs/TESTING.md", "docs/CHECKING.md", "docs/TROUBLESHOOTING.md", "examples/clients/pytest/conftest.py", "examples/clients/node/host.cjs",
                      "share/man/man1/bidi.1", "share/bash-completion/completions/bidi", "share/zsh/site-functions/_bidi",
                      "share/fish/vendor_completions.d/bidi.fish"]:
             self.assertEqual(found["bidi-1.2.3/" + name][0], 0o644, name)
