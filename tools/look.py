@@ -36,10 +36,10 @@ WIDE = 70  # pixels of the lanes of the browser and of the page
 KINDS = ("session", "context", "realm", "navigation", "subscription", "handle", "window", "user context")
 ID = re.compile(r"([0-9a-f]{8})-000([1-8])-8000-8000-([0-9a-f]{12})")
 STRING, BLANKS = re.compile(r'"[^"\\]*(?:\\.[^"\\]*)*"'), re.compile(r"[ \t\r\n]*")
-FIELDS = ("on", "release", "send", "bytes", "cut", "close")  # the lines of a test whose first field is shown with the word
+FIELDS = ("on", "release", "send", "bytes", "raw", "stall", "resume", "cut", "close")  # the lines of a test whose first field is shown with the word
 FOLDED = ("value", "answer", "hold", "emit", "on", "release", "send")  # the lines whose last field folds, however short
 # The lines that `bidi play --scripted` writes.
-WRITTEN = re.compile(rb"(opened|denied|lost|cut) \d+|close \d+( \d+)?|no effect(: .*)?|< \d+ .*|held \d+ \d+ .*|bytes \d+ \w*")
+WRITTEN = re.compile(rb"(opened|denied|lost|stall|resume) \d+|(cut|close) \d+( \d+)?|no effect(: .*)?|< \d+ .*|held \d+ \d+ .*|refuse \d+ \d+|(bytes|raw) \d+ \w*")
 TALK = re.compile(rb"< |> (?!\d+ )")  # how a conversation begins
 # What to do about a line that is not a line of a play, by its form.
 ADVICE = (
@@ -372,9 +372,16 @@ class Play(Chart):
             return self.row(name, "void", marks=["no effect"], brief=brief(line[len("no effect: "):]))
         if word == "held":
             return self.hold(name, connection)
-        if word == "bytes":
+        if word in ("bytes", "raw"):
             folded = text if len(text) > BRIEF else ""
-            return self.row(name, "other", connection, label="binary message", brief=brief(text), text=folded)
+            label = "binary message" if word == "bytes" else "bytes without a frame"
+            return self.row(name, "other", connection, label=label, brief=brief(text), text=folded)
+        if word == "refuse":
+            return self.row(name, "other", marks=[word], brief=rest)
+        if word in ("stall", "resume"):
+            return self.row(name, "other", connection, marks=[word])
+        if word == "cut" and text:
+            return self.row(name, "other", connection, marks=[word], brief=text)
         if word in ("close", "cut"):
             self.end(connection)
         kind = {"opened": "begin", "close": "end", "cut": "end"}.get(word, "stop")

@@ -182,6 +182,16 @@ send 1 {"id":8,"result":{},"type":"success"}
     < 1 {"id":8,"result":{},"type":"success"}
 > 1 {"id":9,"method":"session.status","params":{}}
     held 5 1 {"id":9,"method":"session.status","params":{}}
+raw 1 c100
+    raw 1 c100
+stall 1
+    stall 1
+resume 1
+    resume 1
+refuse 2 503
+    refuse 2 503
+cut 1 10
+    cut 1 10
 close 1 1011
     close 1 1011
 """
@@ -251,8 +261,18 @@ i33 | page | 20 | send 1 | | |
 o28 | reply | 20 | | stray | |
 i34 | command | 20 | session.status | never answered | |
 o29 | held | 20 | session.status | held 5 | | waits
-i35 | page | 20 | close 1 | | | waits
-o30 | end | 20 | | close | | waits
+i35 | page | 20 | raw 1 | | | waits
+o30 | other | 20 | bytes without a frame | | | waits
+i36 | page | 20 | stall 1 | | | waits
+o31 | other | 20 | | stall | | waits
+i37 | page | 20 | resume 1 | | | waits
+o32 | other | 20 | | resume | | waits
+i38 | page | 20 | refuse | | | waits
+o33 | other | 20 | | refuse | | waits
+i39 | page | 20 | cut 1 | | | waits
+o34 | other | 20 | | cut | | waits
+i40 | page | 20 | close 1 | | | waits
+o35 | end | 20 | | close | | waits
 """
 
 # A conversation, as `bidi check --both` reads it. The last line has no line feed.
@@ -500,13 +520,13 @@ class LookTest(unittest.TestCase):
         for name, text in [("i1", "*"), ("i5", '{"method":"browsingContext.navigate"}'), ("i11", "browsingContext.navigate"),
                            ("i12", '[{"method":"network.beforeRequestSent","params":{"navigation":"$navigation"}}]'),
                            ("i16", '{"error":"unknown error","message":"no network"}'), ("o13", "no network"), ("i23", "00ff"),
-                           ("o19", "00ff"), ("i35", "1011"), ("o30", "1011")]:
+                           ("o19", "00ff"), ("o30", "c100"), ("o33", "2 503"), ("i40", "1011"), ("o35", "1011")]:
             with self.subTest(name):
                 self.assertIn(text, rows[name]["text"])
 
     def test_counts_are_those_of_the_rows(self):
         for page, counts in [(self.page().page, ["messages in <b>11</b>", "events <b>1</b>", "denied <b>2</b>"]),
-                             (self.scripted().page, ["held <b>5</b>", "cut <b>1</b>", "close <b>1</b>", "stray <b>3</b>",
+                             (self.scripted().page, ["held <b>5</b>", "cut <b>2</b>", "close <b>1</b>", "stray <b>3</b>",
                                                      "no effect <b>3</b>", "never answered <b>2</b>"]),
                              (self.talk().page, ["messages in <b>8</b>", "messages out <b>11</b>", "stray <b>3</b>"])]:
             for count in counts:

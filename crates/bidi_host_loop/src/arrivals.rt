@@ -80,6 +80,9 @@ impl Hosted {
         if resource.as_str() == PAGE {
             return self.admit_page(place);
         }
+        if let Some(status) = self.refusing.next() {
+            return Ok(self.peers.refuse(place, RequestRefusal::OfTest(status))?);
+        }
         let conn = self.next_conn()?;
         let taken = self.host.opened(conn, resource.as_str())?;
         self.deliver(world, taken)?;

@@ -4,6 +4,7 @@ use crate::console::Console;
 use crate::door::Door;
 use crate::manners::Manners;
 use crate::peers::Peers;
+use crate::refusing::Refusing;
 use crate::sessions::Sessions;
 use crate::surroundings::Surroundings;
 use bidi_recorder::{Host, HostingFault};
@@ -28,6 +29,8 @@ pub struct Hosted {
     pub(crate) told: Vec<String>,
     // How many connections the remote end was asked to open since it was new.
     pub(crate) count: u64,
+    // Which handshakes a test has refused.
+    pub(crate) refusing: Refusing,
     // When the host ends, whatever its connections do; `None` while it serves.
     pub(crate) end: Option<Instant>,
     // Whether there was a session, if the host ends after the last one.
@@ -47,6 +50,7 @@ impl Drop for Hosted {
             is_console_ready: _,
             told: _,
             count: _,
+            refusing: _,
             end: _,
             had_session: _,
         } = self;
@@ -71,6 +75,7 @@ impl Hosted {
             is_console_ready: false,
             told: Vec::new(alloc),
             count: 0,
+            refusing: Refusing::new(0, 0),
             end: None,
             had_session: false,
         })

@@ -42,6 +42,7 @@ mod own;
 mod page_file;
 mod pages;
 mod peers;
+mod refusing;
 mod sessions;
 mod slot;
 mod surroundings;

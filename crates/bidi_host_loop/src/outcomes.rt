@@ -1,6 +1,7 @@
 //! What the lines of a test bring about, beside the messages of the remote end.
 use crate::clock::{PATIENCE, seconds_from_now};
 use crate::hosting::Hosted;
+use crate::refusing::Refusing;
 use crate::surroundings::Surroundings;
 use bidi_recorder::HostingFault;
 use bidi_script_lines::Outcome;
@@ -20,12 +21,32 @@ impl Hosted {
                 let bytes = bytes_of(self.alloc, digits.as_str())?;
                 Ok(self.peers.send_bytes(conn, &bytes)?)
             }
+            Outcome::Raw(conn, digits) => {
+                let bytes = bytes_of(self.alloc, digits.as_str())?;
+                Ok(self.peers.send_raw(conn, &bytes)?)
+            }
+            Outcome::Stalled(conn) => {
+                self.peers.stall(conn, true);
+                Ok(())
+            }
+            Outcome::Resumed(conn) => {
+                self.peers.stall(conn, false);
+                Ok(())
+            }
             Outcome::Cut(conn) => {
                 self.sessions.forget(conn);
                 self.peers.cut(conn);
                 Ok(())
             }
+            Outcome::CutAfter(conn, bytes) => {
+                self.peers.cut_after(conn, bytes);
+                Ok(())
+            }
             Outcome::Closed(conn, code) => self.close_with(world, conn, code),
+            Outcome::Refusing(count, status) => {
+                self.refusing = Refusing::new(count.value, status);
+                Ok(())
+            }
             Outcome::OfMachine(_) | Outcome::Sent(_) | Outcome::NoEffect(_) => Ok(()),
         }
     }

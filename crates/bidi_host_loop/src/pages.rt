@@ -3,6 +3,7 @@ use crate::clock::{LINGER, PATIENCE, seconds_from_now};
 use crate::console::Said;
 use crate::door::Door;
 use crate::hosting::Hosted;
+use crate::refusing::Refusing;
 use crate::surroundings::Surroundings;
 use bidi_page::{no_effect, no_line};
 use bidi_recorder::{HostingFault, Recorded};
@@ -183,6 +184,7 @@ impl Hosted {
         self.sessions.clear();
         self.host.reset()?;
         self.count = 0;
+        self.refusing = Refusing::new(0, 0);
         self.had_session = false;
         world.next_record()?;
         self.begin(world)

@@ -89,9 +89,11 @@ impl Peers {
             peer,
             role: Role::Arriving,
             deadline,
-            is_answered: false,
+            is_read_out: false,
             is_ready: true,
             is_due: false,
+            is_stalled: false,
+            cut_after: None,
         });
         match self.slots.get_mut(place) {
             Some(there) => *there = slot,
@@ -108,18 +110,18 @@ impl Peers {
         }
     }
 
-    /// Whether something may have come in at a place.
+    /// Whether something may have come in at a place that is to be taken.
     pub(crate) fn is_ready(&self, place: usize) -> bool {
         match self.slots.get(place) {
-            Some(Some(slot)) => slot.is_ready,
+            Some(Some(slot)) => slot.can_take(),
             _ => false,
         }
     }
 
-    /// Whether something may have come in anywhere.
+    /// Whether something may have come in anywhere that is to be taken.
     pub(crate) fn is_any_ready(&self) -> bool {
         self.slots.iter().any(|slot| match slot {
-            Some(slot) => slot.is_ready,
+            Some(slot) => slot.can_take(),
             None => false,
         })
     }
@@ -161,7 +163,7 @@ impl Peers {
     ) -> Result<(), AllocError> {
         if let Some(Some(slot)) = self.slots.get_mut(place) {
             slot.role = Role::Leaving;
-            slot.is_answered = true;
+            slot.is_read_out = true;
             slot.is_due = true;
             slot.peer.refuse(refusal)?;
         }
@@ -173,7 +175,7 @@ impl Peers {
         self.hold_payload(reply.json.len());
         if let Some(Some(slot)) = self.slots.get_mut(place) {
             slot.role = Role::Leaving;
-            slot.is_answered = true;
+            slot.is_read_out = true;
             slot.is_due = true;
             slot.peer.reply(reply.status, reply.json.as_str())?;
         }
@@ -229,6 +231,18 @@ impl Peers {
         self.hold_payload(bytes.len());
         match self.slots.get_mut(place) {
             Some(Some(slot)) => slot.send_bytes(bytes),
+            _ => Ok(()),
+        }
+    }
+
+    /// Queues bytes without a frame for the connection with a number, if it is held.
+    pub(crate) fn send_raw(&mut self, conn: JsUint, bytes: &[u8]) -> Result<(), AllocError> {
+        let Some(place) = self.place_of(conn) else {
+            return Ok(());
+        };
+        self.hold_payload(bytes.len());
+        match self.slots.get_mut(place) {
+            Some(Some(slot)) => slot.send_raw(bytes),
             _ => Ok(()),
         }
     }
@@ -297,6 +311,26 @@ impl Peers {
         }
     }
 
+    /// Has nothing read from the connection with a number while it is open, or has it read again.
+    pub(crate) fn stall(&mut self, conn: JsUint, is_stalled: bool) {
+        let Some(place) = self.place_of(conn) else {
+            return;
+        };
+        if let Some(Some(slot)) = self.slots.get_mut(place) {
+            slot.is_stalled = is_stalled;
+        }
+    }
+
+    /// Has the connection with a number end after so many bytes of the frame of its next message.
+    pub(crate) fn cut_after(&mut self, conn: JsUint, bytes: JsUint) {
+        let Some(place) = self.place_of(conn) else {
+            return;
+        };
+        if let Some(Some(slot)) = self.slots.get_mut(place) {
+            slot.cut_after = Some(bytes.value as usize);
+        }
+    }
+
     /// Drops the connection with a number after what is queued, as far as the stream accepts it, without a close
     /// frame.
     pub(crate) fn cut(&mut self, conn: JsUint) {
@@ -327,14 +361,14 @@ impl Peers {
     }
 
     /// The connection at a place has ended. It is dropped at the deadline, or earlier when its queue is empty
-    /// and, if it was answered in its handshake, its peer has ended too.
+    /// and, if its stream is read out, its peer has ended too.
     pub(crate) fn leave(&mut self, place: usize, role: Role, deadline: Option<Instant>) {
         if let Role::Client(conn) = role {
             self.forget(conn);
         }
         if let Some(Some(slot)) = self.slots.get_mut(place) {
             slot.role = Role::Leaving;
-            slot.is_answered = role == Role::Arriving;
+            slot.is_read_out |= role == Role::Arriving;
             slot.deadline = deadline;
             slot.is_due = true;
         }

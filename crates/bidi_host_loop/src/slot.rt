@@ -44,12 +44,16 @@ pub(crate) struct Slot {
     pub(crate) role: Role,
     /// When it is dropped, whatever happens.
     pub(crate) deadline: Option<Instant>,
-    /// Its handshake was answered, and opens no connection.
-    pub(crate) is_answered: bool,
+    /// Its stream is read out before it is dropped: its handshake was answered, and opens no connection, or a test cut it off in a message.
+    pub(crate) is_read_out: bool,
     /// Something may have come in that was not taken yet.
     pub(crate) is_ready: bool,
     /// Something may be queued that can be written.
     pub(crate) is_due: bool,
+    /// A test has nothing taken while the connection is open.
+    pub(crate) is_stalled: bool,
+    /// A test has the connection end after so many bytes of the frame of its next message.
+    pub(crate) cut_after: Option<usize>,
 }
 
 impl Slot {
@@ -57,6 +61,11 @@ impl Slot {
     fn has_failed(&self) -> bool {
         let speaks = matches!(self.role, Role::Client(_) | Role::Page);
         speaks && !self.peer.is_open()
+    }
+
+    /// Whether something may have come in that is to be taken.
+    pub(crate) fn can_take(&self) -> bool {
+        self.is_ready && !(self.is_stalled && self.peer.is_open())
     }
 
     /// Takes what came in, with the role of the connection.
@@ -94,12 +103,12 @@ impl Slot {
         }
         self.role == Role::Leaving
             && self.peer.is_over()
-            && (!self.is_answered || is_due && self.is_read_out())
+            && (!self.is_read_out || is_due && self.read_out())
     }
 
     // Whether all bytes after an answer were read. A stream that is dropped with unread bytes is
     // reset, and the answer is lost.
-    fn is_read_out(&mut self) -> bool {
+    fn read_out(&mut self) -> bool {
         match read_out(self.peer.stream()) {
             Rest::Ended => true,
             Rest::Nothing => false,
@@ -134,7 +143,23 @@ impl Slot {
     /// Queues a binary message.
     pub(crate) fn send_bytes(&mut self, bytes: &[u8]) -> Result<(), AllocError> {
         self.is_due = true;
-        self.peer.send_bytes(bytes)?;
+        match self.cut_after.take() {
+            None => self.peer.send_bytes(bytes)?,
+            Some(most) => {
+                self.is_read_out = true;
+                self.peer.send_part_of_bytes(bytes, most)?;
+            }
+        }
+        if self.has_failed() {
+            self.is_ready = true;
+        }
+        Ok(())
+    }
+
+    /// Queues bytes without a frame.
+    pub(crate) fn send_raw(&mut self, bytes: &[u8]) -> Result<(), AllocError> {
+        self.is_due = true;
+        self.peer.send_raw(bytes)?;
         if self.has_failed() {
             self.is_ready = true;
         }
@@ -144,7 +169,13 @@ impl Slot {
     /// Queues a text.
     pub(crate) fn send(&mut self, text: &str) -> Result<(), AllocError> {
         self.is_due = true;
-        self.peer.send(text)?;
+        match self.cut_after.take() {
+            None => self.peer.send(text)?,
+            Some(most) => {
+                self.is_read_out = true;
+                self.peer.send_part(text, most)?;
+            }
+        }
         if self.has_failed() {
             self.is_ready = true;
         }

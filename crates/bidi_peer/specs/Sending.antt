@@ -44,7 +44,7 @@ module _ {S : Type 0} where
     pub bound : new.most_waiting ≡ old.most_waiting
     pub writes : Writes contents (unwritten old.outbox) (unwritten new.outbox) old.stream new.stream
 
-  -- A frame follows what waited, the stream took nothing, and the bytes that came are unchanged.
+  -- A frame, or bytes without one, follow what waited, the stream took nothing, and the bytes that came are unchanged.
   pub record PutsFrame (frame : List ℕ) (old new : Peer S) : Type 0 where
     pub stream : new.stream ≡ old.stream
     pub came : KeepsWhatCame old new
@@ -54,7 +54,7 @@ module _ {S : Type 0} where
   abbrev pub Puts : List ℕ → Peer S → Peer S → Type 0
   Puts text old new = PutsFrame (text_frame text) old new
 
-  -- The frame follows what waited; the stream took some bytes off the front of all this, and the rest still waits.
+  -- The frame, or the bytes without one, follow what waited; the stream took some bytes off the front of all this, and the rest still waits.
   abbrev pub Sends : (S → Option (List ℕ)) → List ℕ → Peer S → Peer S → Type 0
   Sends contents frame old new = Writes contents (unwritten old.outbox ++ frame) (unwritten new.outbox) old.stream new.stream
 
@@ -74,7 +74,7 @@ module _ {S : Type 0} where
   abbrev pub IsLittle : List ℕ → Peer S → Type 0
   IsLittle frame old = (length (unwritten old.outbox) + length frame ≤ old.most_waiting) × (length (unwritten old.outbox) + length frame < write_from)
 
-  -- The stream took what it could, and with the frame the rest is past the bound: the connection closes, by a close frame behind the rest.
+  -- The stream took what it could, and with the frame, or the bytes without one, the rest is past the bound: the connection closes, by a close frame behind the rest.
   pub record HasNoRoom (contents : S → Option (List ℕ)) (frame : List ℕ) (old new : Peer S) : Type 0 where
     pub closes : new.state ≡ Closing
     pub rest : List ℕ

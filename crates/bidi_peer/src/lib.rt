@@ -9,7 +9,7 @@
 //! - [`Peer::open`] or [`Peer::refuse`] answers a handshake, after [`Came::Asks`]; [`Peer::reply`] answers a call, after
 //!   [`Came::Calls`].
 //! - [`Peer::send`] sends a text, [`Peer::close`] ends the connection, [`Peer::flush`] writes what the stream did not
-//!   take before.
+//!   take before. [`Peer::send_raw`] and [`Peer::send_part`] break the protocol for a test.
 //! - [`Peer::is_open`], [`Peer::waits_to_write`] and [`Peer::is_over`] tell where it stands.
 //! - [`Peer::held`] counts the bytes that it holds, and [`Peer::shed`] fails it where the host holds too much.
 #![tactic(auto)]

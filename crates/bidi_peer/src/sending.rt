@@ -1,9 +1,9 @@
 //! What a connection sends: texts, as far as there is room and the stream takes them.
-ghost use Rattle.std.specs.Prelude.{◌≡◌, ◌≢◌, ◌≤◌, ◌<◌, ◌⊎◌, ◌+◌, length, IsFalse, IsTrue, OnErr, OnOk};
-ghost use Rattle.bidi_peer.specs.Sending.{Flushes, HasNoRoom, IsLittle, KeepsWhatCame, Puts, PutsFrame, SendsBytes, SendsText, bytes_frame, text_frame, write_from};
+ghost use Rattle.std.specs.Prelude.{◌≡◌, ◌≢◌, ◌≤◌, ◌<◌, ◌⊎◌, ◌+◌, length, take, IsFalse, IsTrue, OnErr, OnOk};
+ghost use Rattle.bidi_peer.specs.Sending.{Flushes, HasNoRoom, IsLittle, KeepsWhatCame, Puts, PutsFrame, Sends, SendsBytes, SendsText, bytes_frame, text_frame, write_from};
 ghost use Rattle.bidi_peer.specs.Telling.{HasFailed, SameKnown, StaysUnlessFailed};
 ghost use Rattle.bidi_peer.specs.Waiting.{unwritten};
-ghost use Rattle.bidi_peer.specs.declared.standing.State.TheVariants.{Open};
+ghost use Rattle.bidi_peer.specs.declared.standing.State.TheVariants.{Leaving, Open};
 
 use super::framing::{Fault, bytes_frame_len, frame_len, write_bytes, write_text};
 use super::standing::{Peer, State};
@@ -90,6 +90,110 @@ impl<S: Read + Write + Drop> Peer<S> {
         Ok(())
     }
 
+    /// Sends bytes as they are, with no frame around, as [`Peer::send`] sends a text.
+    ///
+    /// Costs a copy of the bytes.
+    ///
+    /// # Errors
+    /// No memory: an allocation failed. The bytes are not sent.
+    pub fn send_raw(&mut self, bytes: &[u8]) -> Result<(), AllocError>
+        // The call does not report the end.
+        ensures known { SameKnown self.old.end self.new.end }
+        // A connection that is not open does not change.
+        ensures else_same { self.old.state ≢ Open → self.new ≡ self.old }
+        // If the connection was open and still is, the bytes follow everything that waited to be written.
+        ensures sends { self.old.state ≡ Open → OnOk result (self.new.state ≡ Open → Sends S.contents bytes.now self.old self.new) }
+        // If the connection was open and still is, the bytes that came and the state of the protocol are unchanged.
+        ensures came { self.old.state ≡ Open → self.new.state ≡ Open → KeepsWhatCame self.old self.new }
+        // An open connection stays open, unless its stream failed or the bytes have no room.
+        ensures gives_up { self.old.state ≡ Open → OnOk result (StaysUnlessFailed Open self.new.state ⊎ HasNoRoom S.contents bytes.now self.old self.new) }
+        // After an error the state is unchanged, unless the stream failed.
+        ensures err { OnErr result (StaysUnlessFailed self.old.state self.new.state) }
+    {
+        self.make_room(bytes.len());
+        if !self.is_open() {
+            return Ok(());
+        }
+        if !self.has_room(bytes.len()) {
+            self.give_up(Fault::Slow)?;
+            return Ok(());
+        }
+        self.put_raw(bytes)?;
+        self.write_much();
+        Ok(())
+    }
+
+    /// Sends the beginning of the frame of a text, of so many bytes at most, and ends the connection without a close frame:
+    /// it reads nothing more, is over once that is written, and the next take gives `Ended`. Does nothing where the
+    /// connection is not open.
+    ///
+    /// Costs two copies of the text.
+    ///
+    /// # Errors
+    /// No memory: an allocation failed. Nothing of the text is sent.
+    pub fn send_part(&mut self, text: &str, most: usize) -> Result<(), AllocError>
+        // The call does not report the end.
+        ensures known { SameKnown self.old.end self.new.end }
+        // A connection that is not open does not change.
+        ensures else_same { self.old.state ≢ Open → self.new ≡ self.old }
+        // The connection is no longer open.
+        ensures ends { OnOk result (self.new.state ≢ Open) }
+        // If the connection was open and nothing more is read, the beginning of the frame follows everything that waited to be written.
+        ensures sends { self.old.state ≡ Open → OnOk result (self.new.state ≡ Leaving → Sends S.contents (take most (text_frame text.now)) self.old self.new) }
+        // After an error the state is unchanged, unless the stream failed.
+        ensures err { OnErr result (StaysUnlessFailed self.old.state self.new.state) }
+    {
+        if !self.is_open() {
+            return Ok(());
+        }
+        let mut frame = Vec::with_capacity(self.alloc, frame_len(text))?;
+        write_text(&mut self.context, text, &mut frame)?;
+        frame.truncate(most);
+        self.leave_after(&frame)
+    }
+
+    /// Sends the beginning of the frame of a binary message, as [`Peer::send_part`] sends that of a text.
+    ///
+    /// Costs two copies of the bytes.
+    ///
+    /// # Errors
+    /// No memory: an allocation failed. Nothing of the message is sent.
+    pub fn send_part_of_bytes(&mut self, bytes: &[u8], most: usize) -> Result<(), AllocError>
+        // The call does not report the end.
+        ensures known { SameKnown self.old.end self.new.end }
+        // A connection that is not open does not change.
+        ensures else_same { self.old.state ≢ Open → self.new ≡ self.old }
+        // The connection is no longer open.
+        ensures ends { OnOk result (self.new.state ≢ Open) }
+        // If the connection was open and nothing more is read, the beginning of the frame follows everything that waited to be written.
+        ensures sends { self.old.state ≡ Open → OnOk result (self.new.state ≡ Leaving → Sends S.contents (take most (bytes_frame bytes.now)) self.old self.new) }
+        // After an error the state is unchanged, unless the stream failed.
+        ensures err { OnErr result (StaysUnlessFailed self.old.state self.new.state) }
+    {
+        if !self.is_open() {
+            return Ok(());
+        }
+        let mut frame = Vec::with_capacity(self.alloc, bytes_frame_len(bytes))?;
+        write_bytes(&mut self.context, bytes, &mut frame)?;
+        frame.truncate(most);
+        self.leave_after(&frame)
+    }
+
+    // Sends bytes with no frame around, and reads nothing more.
+    fn leave_after(&mut self, bytes: &[u8]) -> Result<(), AllocError>
+        requires { self.old.state ≡ Open }
+        ensures known { SameKnown self.old.end self.new.end }
+        ensures ends { OnOk result (self.new.state ≢ Open) }
+        ensures sends { OnOk result (self.new.state ≡ Leaving → Sends S.contents bytes.now self.old self.new) }
+        ensures err { OnErr result (StaysUnlessFailed self.old.state self.new.state) }
+    {
+        self.send_raw(bytes)?;
+        if self.is_open() {
+            self.leave();
+        }
+        Ok(())
+    }
+
     // Writes what waits, where the connection is open and so many bytes have no room behind it.
     fn make_room(&mut self, frame: usize)
         ensures else_same { self.old.state ≢ Open → self.new ≡ self.old }
@@ -133,6 +237,18 @@ impl<S: Read + Write + Drop> Peer<S> {
     {
         self.outbox.make_room(frame)?;
         write_bytes(&mut self.context, bytes, &mut self.outbox.second)
+    }
+
+    // Puts bytes behind what waits, with no frame around.
+    fn put_raw(&mut self, bytes: &[u8]) -> Result<(), AllocError>
+        requires { self.old.state ≡ Open }
+        ensures puts { OnOk result (PutsFrame bytes.now self.old self.new) }
+        ensures came { KeepsWhatCame self.old self.new }
+        ensures state { self.new.state ≡ self.old.state }
+        ensures end { self.new.end ≡ self.old.end }
+    {
+        self.outbox.make_room(bytes.len())?;
+        self.outbox.put(bytes)
     }
 
     // Writes what waits, where it is much.

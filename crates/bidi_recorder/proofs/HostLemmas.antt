@@ -15,7 +15,7 @@ use Rattle.bidi_scripted.specs.View.{script_of}
 use Rattle.bidi_scripted.specs.declared.scripted_end.ScriptedEnd.{ScriptedEnd}
 use Rattle.bidi_script_lines.specs.Outcomes.{outcome_of, outcome_text}
 use Rattle.bidi_script_lines.specs.Performing.{Brings, StandsAsBefore, TakesStep}
-use Rattle.bidi_script_lines.specs.ScriptLines.{Line, Plain, Answer, Hold, Release, ReleaseWith, Unanswer, Emit, On, Names, Send, Bytes, Cut, Close, is_plain, script_line_of, IsWritable, CanBeWritten}
+use Rattle.bidi_script_lines.specs.ScriptLines.{Line, Plain, Answer, Hold, Release, ReleaseWith, Unanswer, Emit, On, Names, Send, Bytes, Raw, Stall, Resume, Cut, CutAfter, Close, Refuse, is_plain, script_line_of, IsWritable, CanBeWritten}
 use Rattle.bidi_script_lines.specs.ScriptPlayers.{HasPlayedScript}
 use Rattle.bidi_script_lines.proofs.PlainLemmas.{performed_more}
 use Rattle.bidi_recorder.specs.declared.host.Recorded.{Recorded}
@@ -151,8 +151,13 @@ of_page (On method events) e = refl
 of_page (Names names) e = refl
 of_page (Send c text) e = refl
 of_page (Bytes c digits) e = refl
+of_page (Raw c digits) e = refl
+of_page (Stall c) e = refl
+of_page (Resume c) e = refl
 of_page (Cut c) e = refl
+of_page (CutAfter c bytes) e = refl
 of_page (Close c code) e = refl
+of_page (Refuse n code) e = refl
 
 -- a line that a connection says is not one that a page says
 pub no_page_line : (l : Line) (line : List ℕ) → line ≡ script_line_of l → is_said_by_pages l ≡ false

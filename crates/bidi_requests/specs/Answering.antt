@@ -6,21 +6,37 @@ use Rattle.bidi_requests.specs.declared.answering.Answer.TheVariants.{BadBody, B
 use Rattle.bidi_requests.specs.declared.answering.AllowedMethods.TheVariants.{Get, GetAndDelete, GetAndPost}
 use Rattle.bidi_requests.specs.declared.answering.ReplyStatus.{ReplyStatus}
 use Rattle.bidi_requests.specs.declared.answering.ReplyStatus.TheVariants as reply
-use Rattle.bidi_requests.specs.declared.answering.RequestRefusal.TheVariants.{Full, NotFound}
+use Rattle.bidi_requests.specs.declared.answering.RequestRefusal.TheVariants.{Full, NotFound, OfTest}
 
--- the status of an answer, with its reason
-abbrev pub status_of : Answer → List ℕ
-status_of Ready = codes "200 OK"
-status_of NotHttp = codes "400 Bad Request"
-status_of TooManyFields = codes "400 Bad Request"
-status_of BadBody = codes "400 Bad Request"
-status_of NoLength = codes "411 Length Required"
-status_of TooLong = codes "413 Content Too Large"
-status_of BadKey = codes "400 Bad Request"
-status_of Foreign = codes "403 Forbidden"
-status_of NoUpgrade = codes "426 Upgrade Required"
-status_of (Refused NotFound) = codes "404 Not Found"
-status_of (Refused Full) = codes "503 Service Unavailable"
+-- the status of an answer
+abbrev pub status_of : Answer → ℕ
+status_of Ready = 200
+status_of NotHttp = 400
+status_of TooManyFields = 400
+status_of BadBody = 400
+status_of NoLength = 411
+status_of TooLong = 413
+status_of BadKey = 400
+status_of Foreign = 403
+status_of NoUpgrade = 426
+status_of (Refused NotFound) = 404
+status_of (Refused Full) = 503
+status_of (Refused (OfTest status)) = status
+
+-- the reason behind the status
+abbrev pub reason_of : Answer → List ℕ
+reason_of Ready = codes "OK"
+reason_of NotHttp = codes "Bad Request"
+reason_of TooManyFields = codes "Bad Request"
+reason_of BadBody = codes "Bad Request"
+reason_of NoLength = codes "Length Required"
+reason_of TooLong = codes "Content Too Large"
+reason_of BadKey = codes "Bad Request"
+reason_of Foreign = codes "Forbidden"
+reason_of NoUpgrade = codes "Upgrade Required"
+reason_of (Refused NotFound) = codes "Not Found"
+reason_of (Refused Full) = codes "Service Unavailable"
+reason_of (Refused (OfTest status)) = codes "Refused"
 
 -- the header lines that only this answer has
 abbrev pub own_lines_of : Answer → List ℕ
@@ -54,24 +70,37 @@ line_of Foreign = codes "forbidden: an Origin must be http(s)://127.0.0.1 or htt
 line_of NoUpgrade = codes "upgrade required: connect by WebSocket, version 13"
 line_of (Refused NotFound) = codes "no such resource: connect to /session, /session/ID or /page"
 line_of (Refused Full) = codes "too many connections: try again later"
+line_of (Refused (OfTest status)) = codes "refused by a test"
 
--- the bytes of an answer with this status, these own header lines, this media type and this line of text: a head, an empty line, and the body
+-- the first line of an answer with this status and its reason, without its end
+abbrev pub first_line_of : ℕ → List ℕ → List ℕ
+first_line_of status reason = codes "HTTP/1.1 " ++ (decimal status ++ 32 ∷ reason)
+
+-- the bytes of an answer with this first line, these own header lines, this media type and this line of text: a head, an empty line, and the body
 abbrev pub response_of : List ℕ → List ℕ → List ℕ → List ℕ → List ℕ
-response_of status own_lines media_type line =
-    codes "HTTP/1.1 " ++ (status ++ (crlf ++ (own_lines ++ (codes "Connection: close" ++ (crlf ++ (codes "Content-Type: " ++ (media_type ++ (crlf
-    ++ (codes "Content-Length: " ++ (decimal (length line + 1) ++ (crlf ++ (crlf ++ (line ++ 10 ∷ [])))))))))))))
+response_of first own_lines media_type line =
+    first ++ (crlf ++ (own_lines ++ (codes "Connection: close" ++ (crlf ++ (codes "Content-Type: " ++ (media_type ++ (crlf
+    ++ (codes "Content-Length: " ++ (decimal (length line + 1) ++ (crlf ++ (crlf ++ (line ++ 10 ∷ []))))))))))))
 
 -- the bytes of an answer
 abbrev pub answer_bytes : Answer → List ℕ
-answer_bytes a = response_of (status_of a) (own_lines_of a) (type_of a) (line_of a)
+answer_bytes a = response_of (first_line_of (status_of a) (reason_of a)) (own_lines_of a) (type_of a) (line_of a)
 
--- the status of the reply to a call, with its reason
-abbrev pub reply_status_of : ReplyStatus → List ℕ
-reply_status_of reply.Done = codes "200 OK"
-reply_status_of reply.BadRequest = codes "400 Bad Request"
-reply_status_of reply.NotFound = codes "404 Not Found"
-reply_status_of (reply.NotAllowed methods) = codes "405 Method Not Allowed"
-reply_status_of reply.Failed = codes "500 Internal Server Error"
+-- the status of the reply to a call
+abbrev pub reply_status_of : ReplyStatus → ℕ
+reply_status_of reply.Done = 200
+reply_status_of reply.BadRequest = 400
+reply_status_of reply.NotFound = 404
+reply_status_of (reply.NotAllowed methods) = 405
+reply_status_of reply.Failed = 500
+
+-- the reason behind the status of a reply
+abbrev pub reply_reason_of : ReplyStatus → List ℕ
+reply_reason_of reply.Done = codes "OK"
+reply_reason_of reply.BadRequest = codes "Bad Request"
+reply_reason_of reply.NotFound = codes "Not Found"
+reply_reason_of (reply.NotAllowed methods) = codes "Method Not Allowed"
+reply_reason_of reply.Failed = codes "Internal Server Error"
 
 -- the header lines of a reply with this status: no cache keeps it, and a method that is not allowed is answered by those that are (RFC 9110, 15.5.6)
 abbrev pub reply_lines_of : ReplyStatus → List ℕ
@@ -82,4 +111,4 @@ reply_lines_of status = codes "Cache-Control: no-cache" ++ crlf
 
 -- the bytes of the reply to a call with this status and this JSON text
 abbrev pub reply_bytes : ReplyStatus → List ℕ → List ℕ
-reply_bytes status json = response_of (reply_status_of status) (reply_lines_of status) json_type json
+reply_bytes status json = response_of (first_line_of (reply_status_of status) (reply_reason_of status)) (reply_lines_of status) json_type json

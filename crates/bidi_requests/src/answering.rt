@@ -1,6 +1,6 @@
 //! The answers of a server to a request that it does not open, and to a call.
 ghost use Rattle.std.specs.Prelude.{◌≡◌, IfOk, string_bytes};
-ghost use Rattle.bidi_requests.specs.Answering.{answer_bytes, line_of, own_lines_of, reply_bytes, reply_lines_of, reply_status_of, response_of, status_of, type_of};
+ghost use Rattle.bidi_requests.specs.Answering.{answer_bytes, first_line_of, line_of, own_lines_of, reason_of, reply_bytes, reply_lines_of, reply_reason_of, reply_status_of, response_of, status_of, type_of};
 
 use std::alloc::{AllocError, Global};
 
@@ -11,6 +11,8 @@ pub enum RequestRefusal {
     NotFound,
     /// No more connections are taken now: 503.
     Full,
+    /// A test refuses it by this status, which has three digits.
+    OfTest(u16),
 }
 
 /// The methods of a resource that is called by another.
@@ -65,21 +67,39 @@ pub enum Answer {
 }
 
 impl Answer {
-    // The status with its reason.
-    fn status(self) -> &'static str
-        ensures { result.now ≡ status_of self }
+    // The status.
+    fn status(self) -> u16
+        ensures { result ≡ status_of self }
     {
         match self {
-            Answer::Ready => "200 OK",
+            Answer::Ready => 200,
+            Answer::NotHttp | Answer::TooManyFields | Answer::BadBody | Answer::BadKey => 400,
+            Answer::NoLength => 411,
+            Answer::TooLong => 413,
+            Answer::Foreign => 403,
+            Answer::NoUpgrade => 426,
+            Answer::Refused(RequestRefusal::NotFound) => 404,
+            Answer::Refused(RequestRefusal::Full) => 503,
+            Answer::Refused(RequestRefusal::OfTest(status)) => status,
+        }
+    }
+
+    // The reason behind the status.
+    fn reason(self) -> &'static str
+        ensures { result.now ≡ reason_of self }
+    {
+        match self {
+            Answer::Ready => "OK",
             Answer::NotHttp | Answer::TooManyFields | Answer::BadBody | Answer::BadKey => {
-                "400 Bad Request"
+                "Bad Request"
             }
-            Answer::NoLength => "411 Length Required",
-            Answer::TooLong => "413 Content Too Large",
-            Answer::Foreign => "403 Forbidden",
-            Answer::NoUpgrade => "426 Upgrade Required",
-            Answer::Refused(RequestRefusal::NotFound) => "404 Not Found",
-            Answer::Refused(RequestRefusal::Full) => "503 Service Unavailable",
+            Answer::NoLength => "Length Required",
+            Answer::TooLong => "Content Too Large",
+            Answer::Foreign => "Forbidden",
+            Answer::NoUpgrade => "Upgrade Required",
+            Answer::Refused(RequestRefusal::NotFound) => "Not Found",
+            Answer::Refused(RequestRefusal::Full) => "Service Unavailable",
+            Answer::Refused(RequestRefusal::OfTest(_)) => "Refused",
         }
     }
 
@@ -124,6 +144,7 @@ impl Answer {
             Answer::Refused(RequestRefusal::NotFound) =>
                 "no such resource: connect to /session, /session/ID or /page",
             Answer::Refused(RequestRefusal::Full) => "too many connections: try again later",
+            Answer::Refused(RequestRefusal::OfTest(_)) => "refused by a test",
         }
     }
 
@@ -135,9 +156,10 @@ impl Answer {
         // After an Ok, the result has the bytes of the answer.
         ensures { IfOk result (λ text. string_bytes text ≡ answer_bytes self) }
     {
+        let first = first_line(alloc, self.status(), self.reason())?;
         response(
             alloc,
-            self.status(),
+            first.as_str(),
             self.own_lines(),
             self.media_type(),
             self.line(),
@@ -146,16 +168,29 @@ impl Answer {
 }
 
 impl ReplyStatus {
-    // The status with its reason.
-    fn status(self) -> &'static str
-        ensures { result.now ≡ reply_status_of self }
+    // The status.
+    fn status(self) -> u16
+        ensures { result ≡ reply_status_of self }
     {
         match self {
-            ReplyStatus::Done => "200 OK",
-            ReplyStatus::BadRequest => "400 Bad Request",
-            ReplyStatus::NotFound => "404 Not Found",
-            ReplyStatus::NotAllowed(_) => "405 Method Not Allowed",
-            ReplyStatus::Failed => "500 Internal Server Error",
+            ReplyStatus::Done => 200,
+            ReplyStatus::BadRequest => 400,
+            ReplyStatus::NotFound => 404,
+            ReplyStatus::NotAllowed(_) => 405,
+            ReplyStatus::Failed => 500,
+        }
+    }
+
+    // The reason behind the status.
+    fn reason(self) -> &'static str
+        ensures { result.now ≡ reply_reason_of self }
+    {
+        match self {
+            ReplyStatus::Done => "OK",
+            ReplyStatus::BadRequest => "Bad Request",
+            ReplyStatus::NotFound => "Not Found",
+            ReplyStatus::NotAllowed(_) => "Method Not Allowed",
+            ReplyStatus::Failed => "Internal Server Error",
         }
     }
 
@@ -185,9 +220,10 @@ impl ReplyStatus {
         // After an Ok, the result has the bytes of the reply.
         ensures { IfOk result (λ text. string_bytes text ≡ reply_bytes self json.now) }
     {
+        let first = first_line(alloc, self.status(), self.reason())?;
         response(
             alloc,
-            self.status(),
+            first.as_str(),
             self.own_lines(),
             "application/json; charset=utf-8",
             json,
@@ -195,18 +231,25 @@ impl ReplyStatus {
     }
 }
 
-// An answer with this status, these own header lines, this media type and this line of text.
+// The first line of an answer with this status and its reason, without its end.
+fn first_line(alloc: Global, status: u16, reason: &str) -> Result<String, AllocError>
+    ensures { IfOk result (λ line. string_bytes line ≡ first_line_of status reason.now) }
+{
+    format!(in alloc; "HTTP/1.1 {status} {reason}")
+}
+
+// An answer with this first line, these own header lines, this media type and this line of text.
 fn response(
     alloc: Global,
-    status: &str,
+    first: &str,
     own_lines: &str,
     media_type: &str,
     line: &str,
 ) -> Result<String, AllocError>
-    ensures { IfOk result (λ text. string_bytes text ≡ response_of status.now own_lines.now media_type.now line.now) }
+    ensures { IfOk result (λ text. string_bytes text ≡ response_of first.now own_lines.now media_type.now line.now) }
 {
     let length = line.len() + 1;
     format!(in alloc;
-        "HTTP/1.1 {status}\r\n{own_lines}Connection: close\r\nContent-Type: {media_type}\r\nContent-Length: {length}\r\n\r\n{line}\n"
+        "{first}\r\n{own_lines}Connection: close\r\nContent-Type: {media_type}\r\nContent-Length: {length}\r\n\r\n{line}\n"
     )
 }

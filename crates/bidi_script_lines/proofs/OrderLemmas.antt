@@ -1,12 +1,12 @@
 -- The first word of a line that is not one of a play.
-use Rattle.std.proofs.Common.{◌≡◌, ℕ, ◌<◌, ◌^◌, ◌||◌, Bool, true, false, true≢false, List, [], ◌∷◌, ◌++◌, Result, Ok, Err, Option, Some, None, refl, sym, ap, subst, ◌∙◌}
+use Rattle.std.proofs.Common.{◌≡◌, ℕ, ◌<◌, ◌^◌, ◌||◌, Bool, true, false, true≢false, List, [], ◌∷◌, ◌++◌, Result, Ok, Err, Option, Some, None, refl, sym, ap, ◌∙◌}
 use Rattle.std.specs.Prelude.{◌==◌, bytes_eq, codes, decimal, IfOk, IfNone}
 use Rattle.std.specs.List.{list_any}
 use Rattle.std.proofs.lemmas.Bool.{eqb-true}
 use Rattle.std.proofs.lemmas.Slice.Eq.{bytes_eq-Decides}
 use Rattle.bidi_sessions.specs.Step.{Step}
 use Rattle.bidi_play.specs.Lines.{line_of, IsSayable}
-use Rattle.bidi_script_lines.specs.ScriptLines.{Line, Plain, Answer, Hold, Release, ReleaseWith, Unanswer, Emit, On, Names, Send, Bytes, Cut, Close, is_plain, word_of, rest_of, script_line_of, IsWord, IsWritable}
+use Rattle.bidi_script_lines.specs.ScriptLines.{Line, Plain, Answer, Hold, Release, ReleaseWith, Unanswer, Emit, On, Names, Send, Bytes, Raw, Stall, Resume, Cut, CutAfter, Close, Refuse, is_plain, word_of, rest_of, script_line_of, IsWord, IsWritable}
 
 -- ---- spaces in a list
 
@@ -62,70 +62,43 @@ none_of (Ok (Some x)) f h = tt
 -- the word has no space
 pub word_has_no_space : (l : Line) → is_plain l ≡ false → list_any (λ b. b == 32) (word_of l) ≡ false
 word_has_no_space (Plain step) p = absurd (true≢false p)
-word_has_no_space (Answer row) p = refl
-word_has_no_space (Hold row) p = refl
-word_has_no_space (Release number) p = refl
-word_has_no_space (ReleaseWith number row) p = refl
-word_has_no_space (Unanswer method) p = refl
-word_has_no_space (Emit event) p = refl
-word_has_no_space (On method events) p = refl
-word_has_no_space (Names names) p = refl
-word_has_no_space (Send c text) p = refl
-word_has_no_space (Bytes c digits) p = refl
-word_has_no_space (Cut c) p = refl
-word_has_no_space (Close c code) p = refl
+word_has_no_space l p = refl
 
--- it is one of eleven
+-- it is one of fifteen
 pub known_order : (word : List ℕ)
     → (word ≡ codes "answer" → ⊥) → (word ≡ codes "hold" → ⊥) → (word ≡ codes "release" → ⊥) → (word ≡ codes "unanswer" → ⊥) → (word ≡ codes "emit" → ⊥)
-    → (word ≡ codes "on" → ⊥) → (word ≡ codes "names" → ⊥) → (word ≡ codes "send" → ⊥) → (word ≡ codes "bytes" → ⊥) → (word ≡ codes "cut" → ⊥)
-    → (word ≡ codes "close" → ⊥) → (l : Line) → is_plain l ≡ false → word ≡ word_of l → ⊥
-known_order word a h r u e o n s b c l (Plain step) p is = absurd (true≢false p)
-known_order word a h r u e o n s b c l (Answer row) p is = a is
-known_order word a h r u e o n s b c l (Hold row) p is = h is
-known_order word a h r u e o n s b c l (Release number) p is = r is
-known_order word a h r u e o n s b c l (ReleaseWith number row) p is = r is
-known_order word a h r u e o n s b c l (Unanswer method) p is = u is
-known_order word a h r u e o n s b c l (Emit event) p is = e is
-known_order word a h r u e o n s b c l (On method events) p is = o is
-known_order word a h r u e o n s b c l (Names names) p is = n is
-known_order word a h r u e o n s b c l (Send conn text) p is = s is
-known_order word a h r u e o n s b c l (Bytes conn digits) p is = b is
-known_order word a h r u e o n s b c l (Cut conn) p is = c is
-known_order word a h r u e o n s b c l (Close conn code) p is = l is
+    → (word ≡ codes "on" → ⊥) → (word ≡ codes "names" → ⊥) → (word ≡ codes "send" → ⊥) → (word ≡ codes "bytes" → ⊥) → (word ≡ codes "raw" → ⊥)
+    → (word ≡ codes "stall" → ⊥) → (word ≡ codes "resume" → ⊥) → (word ≡ codes "cut" → ⊥) → (word ≡ codes "close" → ⊥) → (word ≡ codes "refuse" → ⊥)
+    → (l : Line) → is_plain l ≡ false → word ≡ word_of l → ⊥
+known_order word a h r u e o n s b w t v c l f (Plain step) p is = absurd (true≢false p)
+known_order word a h r u e o n s b w t v c l f (Answer row) p is = a is
+known_order word a h r u e o n s b w t v c l f (Hold row) p is = h is
+known_order word a h r u e o n s b w t v c l f (Release number) p is = r is
+known_order word a h r u e o n s b w t v c l f (ReleaseWith number row) p is = r is
+known_order word a h r u e o n s b w t v c l f (Unanswer method) p is = u is
+known_order word a h r u e o n s b w t v c l f (Emit event) p is = e is
+known_order word a h r u e o n s b w t v c l f (On method events) p is = o is
+known_order word a h r u e o n s b w t v c l f (Names names) p is = n is
+known_order word a h r u e o n s b w t v c l f (Send conn text) p is = s is
+known_order word a h r u e o n s b w t v c l f (Bytes conn digits) p is = b is
+known_order word a h r u e o n s b w t v c l f (Raw conn digits) p is = w is
+known_order word a h r u e o n s b w t v c l f (Stall conn) p is = t is
+known_order word a h r u e o n s b w t v c l f (Resume conn) p is = v is
+known_order word a h r u e o n s b w t v c l f (Cut conn) p is = c is
+known_order word a h r u e o n s b w t v c l f (CutAfter conn bytes) p is = c is
+known_order word a h r u e o n s b w t v c l f (Close conn code) p is = l is
+known_order word a h r u e o n s b w t v c l f (Refuse number code) p is = f is
 
 -- a line is that of a step, or its word and what follows it
 pub no_line : (line : List ℕ) → ((s : Step) → IsSayable s → line ≡ line_of s → ⊥)
     → ((l : Line) → is_plain l ≡ false → IsWritable l → line ≡ word_of l ++ 32 ∷ rest_of l → ⊥) → (l : Line) → IsWritable l → line ≡ script_line_of l → ⊥
 no_line line step order (Plain s) w e = step s w e
-no_line line step order (Answer row) w e = order (Answer row) refl w e
-no_line line step order (Hold row) w e = order (Hold row) refl w e
-no_line line step order (Release number) w e = order (Release number) refl w e
-no_line line step order (ReleaseWith number row) w e = order (ReleaseWith number row) refl w e
-no_line line step order (Unanswer method) w e = order (Unanswer method) refl w e
-no_line line step order (Emit event) w e = order (Emit event) refl w e
-no_line line step order (On method events) w e = order (On method events) refl w e
-no_line line step order (Names names) w e = order (Names names) refl w e
-no_line line step order (Send c text) w e = order (Send c text) refl w e
-no_line line step order (Bytes c digits) w e = order (Bytes c digits) refl w e
-no_line line step order (Cut c) w e = order (Cut c) refl w e
-no_line line step order (Close c code) w e = order (Close c code) refl w e
+no_line line step order l w e = order l refl w e
 
 -- the line of one that is not one of a play is its word and what follows it
 pub order_line : (l : Line) → is_plain l ≡ false → script_line_of l ≡ word_of l ++ 32 ∷ rest_of l
 order_line (Plain step) p = absurd (true≢false p)
-order_line (Answer row) p = refl
-order_line (Hold row) p = refl
-order_line (Release number) p = refl
-order_line (ReleaseWith number row) p = refl
-order_line (Unanswer method) p = refl
-order_line (Emit event) p = refl
-order_line (On method events) p = refl
-order_line (Names names) p = refl
-order_line (Send c text) p = refl
-order_line (Bytes c digits) p = refl
-order_line (Cut c) p = refl
-order_line (Close c code) p = refl
+order_line l p = refl
 
 -- two words that differ are not one
 other_word : (a b : List ℕ) → bytes_eq a b ≡ false → a ≡ b → ⊥
@@ -137,104 +110,69 @@ pub no_release : (word rest : List ℕ) → word ≡ codes "release"
     → (l : Line) → is_plain l ≡ false → IsWritable l → word ≡ word_of l → rest ≡ rest_of l → ⊥
 no_release word rest is none (Release n) p w e r = (none n w).1 r
 no_release word rest is none (ReleaseWith n row) p w e r = (none n w).0 row r
-no_release word rest is none (Plain step) p w e r = true≢false p
-no_release word rest is none (Answer row) p w e r = other_word (codes "release") (codes "answer") refl (sym is ∙ e)
-no_release word rest is none (Hold row) p w e r = other_word (codes "release") (codes "hold") refl (sym is ∙ e)
-no_release word rest is none (Unanswer method) p w e r = other_word (codes "release") (codes "unanswer") refl (sym is ∙ e)
-no_release word rest is none (Emit event) p w e r = other_word (codes "release") (codes "emit") refl (sym is ∙ e)
-no_release word rest is none (On method events) p w e r = other_word (codes "release") (codes "on") refl (sym is ∙ e)
-no_release word rest is none (Names names) p w e r = other_word (codes "release") (codes "names") refl (sym is ∙ e)
-no_release word rest is none (Send c text) p w e r = other_word (codes "release") (codes "send") refl (sym is ∙ e)
-no_release word rest is none (Bytes c digits) p w e r = other_word (codes "release") (codes "bytes") refl (sym is ∙ e)
-no_release word rest is none (Cut c) p w e r = other_word (codes "release") (codes "cut") refl (sym is ∙ e)
-no_release word rest is none (Close c code) p w e r = other_word (codes "release") (codes "close") refl (sym is ∙ e)
+no_release word rest is none l p w e r = other_word (codes "release") (word_of l) refl (sym is ∙ e)
 
 -- no line has the word `on` if its fields are wrong
 pub no_on : (word rest : List ℕ) → word ≡ codes "on"
     → ((method events : List ℕ) → IsWord method → rest ≡ method ++ 32 ∷ events → ⊥)
     → (l : Line) → is_plain l ≡ false → IsWritable l → word ≡ word_of l → rest ≡ rest_of l → ⊥
-no_on word rest is none (Plain step) p w e r = true≢false p
-no_on word rest is none (Answer row) p w e r = other_word (codes "on") (codes "answer") refl (sym is ∙ e)
-no_on word rest is none (Hold row) p w e r = other_word (codes "on") (codes "hold") refl (sym is ∙ e)
-no_on word rest is none (Release number) p w e r = other_word (codes "on") (codes "release") refl (sym is ∙ e)
-no_on word rest is none (ReleaseWith number row) p w e r = other_word (codes "on") (codes "release") refl (sym is ∙ e)
-no_on word rest is none (Unanswer method) p w e r = other_word (codes "on") (codes "unanswer") refl (sym is ∙ e)
-no_on word rest is none (Emit event) p w e r = other_word (codes "on") (codes "emit") refl (sym is ∙ e)
 no_on word rest is none (On method events) p w e r = none method events w r
-no_on word rest is none (Names names) p w e r = other_word (codes "on") (codes "names") refl (sym is ∙ e)
-no_on word rest is none (Send c text) p w e r = other_word (codes "on") (codes "send") refl (sym is ∙ e)
-no_on word rest is none (Bytes c digits) p w e r = other_word (codes "on") (codes "bytes") refl (sym is ∙ e)
-no_on word rest is none (Cut c) p w e r = other_word (codes "on") (codes "cut") refl (sym is ∙ e)
-no_on word rest is none (Close c code) p w e r = other_word (codes "on") (codes "close") refl (sym is ∙ e)
+no_on word rest is none l p w e r = other_word (codes "on") (word_of l) refl (sym is ∙ e)
 
 -- no line has the word `send` if its fields are wrong
 pub no_send : (word rest : List ℕ) → word ≡ codes "send"
     → ((n : ℕ) (text : List ℕ) → n < 2 ^ 53 → rest ≡ decimal n ++ 32 ∷ text → ⊥)
     → (l : Line) → is_plain l ≡ false → IsWritable l → word ≡ word_of l → rest ≡ rest_of l → ⊥
-no_send word rest is none (Plain step) p w e r = true≢false p
-no_send word rest is none (Answer row) p w e r = other_word (codes "send") (codes "answer") refl (sym is ∙ e)
-no_send word rest is none (Hold row) p w e r = other_word (codes "send") (codes "hold") refl (sym is ∙ e)
-no_send word rest is none (Release number) p w e r = other_word (codes "send") (codes "release") refl (sym is ∙ e)
-no_send word rest is none (ReleaseWith number row) p w e r = other_word (codes "send") (codes "release") refl (sym is ∙ e)
-no_send word rest is none (Unanswer method) p w e r = other_word (codes "send") (codes "unanswer") refl (sym is ∙ e)
-no_send word rest is none (Emit event) p w e r = other_word (codes "send") (codes "emit") refl (sym is ∙ e)
-no_send word rest is none (On method events) p w e r = other_word (codes "send") (codes "on") refl (sym is ∙ e)
-no_send word rest is none (Names names) p w e r = other_word (codes "send") (codes "names") refl (sym is ∙ e)
 no_send word rest is none (Send c text) p w e r = none c text w r
-no_send word rest is none (Bytes c digits) p w e r = other_word (codes "send") (codes "bytes") refl (sym is ∙ e)
-no_send word rest is none (Cut c) p w e r = other_word (codes "send") (codes "cut") refl (sym is ∙ e)
-no_send word rest is none (Close c code) p w e r = other_word (codes "send") (codes "close") refl (sym is ∙ e)
+no_send word rest is none l p w e r = other_word (codes "send") (word_of l) refl (sym is ∙ e)
 
 -- no line has the word `bytes` if its fields are wrong
 pub no_bytes : (word rest : List ℕ) → word ≡ codes "bytes"
     → ((n : ℕ) (digits : List ℕ) → n < 2 ^ 53 → rest ≡ decimal n ++ 32 ∷ digits → ⊥)
     → (l : Line) → is_plain l ≡ false → IsWritable l → word ≡ word_of l → rest ≡ rest_of l → ⊥
-no_bytes word rest is none (Plain step) p w e r = true≢false p
-no_bytes word rest is none (Answer row) p w e r = other_word (codes "bytes") (codes "answer") refl (sym is ∙ e)
-no_bytes word rest is none (Hold row) p w e r = other_word (codes "bytes") (codes "hold") refl (sym is ∙ e)
-no_bytes word rest is none (Release number) p w e r = other_word (codes "bytes") (codes "release") refl (sym is ∙ e)
-no_bytes word rest is none (ReleaseWith number row) p w e r = other_word (codes "bytes") (codes "release") refl (sym is ∙ e)
-no_bytes word rest is none (Unanswer method) p w e r = other_word (codes "bytes") (codes "unanswer") refl (sym is ∙ e)
-no_bytes word rest is none (Emit event) p w e r = other_word (codes "bytes") (codes "emit") refl (sym is ∙ e)
-no_bytes word rest is none (On method events) p w e r = other_word (codes "bytes") (codes "on") refl (sym is ∙ e)
-no_bytes word rest is none (Names names) p w e r = other_word (codes "bytes") (codes "names") refl (sym is ∙ e)
-no_bytes word rest is none (Send c text) p w e r = other_word (codes "bytes") (codes "send") refl (sym is ∙ e)
 no_bytes word rest is none (Bytes c digits) p w e r = none c digits w r
-no_bytes word rest is none (Cut c) p w e r = other_word (codes "bytes") (codes "cut") refl (sym is ∙ e)
-no_bytes word rest is none (Close c code) p w e r = other_word (codes "bytes") (codes "close") refl (sym is ∙ e)
+no_bytes word rest is none l p w e r = other_word (codes "bytes") (word_of l) refl (sym is ∙ e)
+
+-- no line has the word `raw` if its fields are wrong
+pub no_raw : (word rest : List ℕ) → word ≡ codes "raw"
+    → ((n : ℕ) (digits : List ℕ) → n < 2 ^ 53 → rest ≡ decimal n ++ 32 ∷ digits → ⊥)
+    → (l : Line) → is_plain l ≡ false → IsWritable l → word ≡ word_of l → rest ≡ rest_of l → ⊥
+no_raw word rest is none (Raw c digits) p w e r = none c digits w r
+no_raw word rest is none l p w e r = other_word (codes "raw") (word_of l) refl (sym is ∙ e)
+
+-- no line has the word `stall` if its field is wrong
+pub no_stall : (word rest : List ℕ) → word ≡ codes "stall"
+    → ((n : ℕ) → n < 2 ^ 53 → rest ≡ decimal n → ⊥)
+    → (l : Line) → is_plain l ≡ false → IsWritable l → word ≡ word_of l → rest ≡ rest_of l → ⊥
+no_stall word rest is none (Stall c) p w e r = none c w r
+no_stall word rest is none l p w e r = other_word (codes "stall") (word_of l) refl (sym is ∙ e)
+
+-- no line has the word `resume` if its field is wrong
+pub no_resume : (word rest : List ℕ) → word ≡ codes "resume"
+    → ((n : ℕ) → n < 2 ^ 53 → rest ≡ decimal n → ⊥)
+    → (l : Line) → is_plain l ≡ false → IsWritable l → word ≡ word_of l → rest ≡ rest_of l → ⊥
+no_resume word rest is none (Resume c) p w e r = none c w r
+no_resume word rest is none l p w e r = other_word (codes "resume") (word_of l) refl (sym is ∙ e)
 
 -- no line has the word `cut` if its fields are wrong
 pub no_cut : (word rest : List ℕ) → word ≡ codes "cut"
     → ((n : ℕ) → n < 2 ^ 53 → rest ≡ decimal n → ⊥)
+    × ((n bytes : ℕ) → n < 2 ^ 53 → bytes < 2 ^ 53 → rest ≡ decimal n ++ 32 ∷ decimal bytes → ⊥)
     → (l : Line) → is_plain l ≡ false → IsWritable l → word ≡ word_of l → rest ≡ rest_of l → ⊥
-no_cut word rest is none (Plain step) p w e r = true≢false p
-no_cut word rest is none (Answer row) p w e r = other_word (codes "cut") (codes "answer") refl (sym is ∙ e)
-no_cut word rest is none (Hold row) p w e r = other_word (codes "cut") (codes "hold") refl (sym is ∙ e)
-no_cut word rest is none (Release number) p w e r = other_word (codes "cut") (codes "release") refl (sym is ∙ e)
-no_cut word rest is none (ReleaseWith number row) p w e r = other_word (codes "cut") (codes "release") refl (sym is ∙ e)
-no_cut word rest is none (Unanswer method) p w e r = other_word (codes "cut") (codes "unanswer") refl (sym is ∙ e)
-no_cut word rest is none (Emit event) p w e r = other_word (codes "cut") (codes "emit") refl (sym is ∙ e)
-no_cut word rest is none (On method events) p w e r = other_word (codes "cut") (codes "on") refl (sym is ∙ e)
-no_cut word rest is none (Names names) p w e r = other_word (codes "cut") (codes "names") refl (sym is ∙ e)
-no_cut word rest is none (Send c text) p w e r = other_word (codes "cut") (codes "send") refl (sym is ∙ e)
-no_cut word rest is none (Bytes c digits) p w e r = other_word (codes "cut") (codes "bytes") refl (sym is ∙ e)
-no_cut word rest is none (Cut c) p w e r = none c w r
-no_cut word rest is none (Close c code) p w e r = other_word (codes "cut") (codes "close") refl (sym is ∙ e)
+no_cut word rest is none (Cut c) p w e r = none.0 c w r
+no_cut word rest is none (CutAfter c bytes) p w e r = none.1 c bytes w.0 w.1 r
+no_cut word rest is none l p w e r = other_word (codes "cut") (word_of l) refl (sym is ∙ e)
 
 -- no line has the word `close` if its fields are wrong
 pub no_close : (word rest : List ℕ) → word ≡ codes "close"
     → ((n code : ℕ) → n < 2 ^ 53 → code < 2 ^ 53 → rest ≡ decimal n ++ 32 ∷ decimal code → ⊥)
     → (l : Line) → is_plain l ≡ false → IsWritable l → word ≡ word_of l → rest ≡ rest_of l → ⊥
-no_close word rest is none (Plain step) p w e r = true≢false p
-no_close word rest is none (Answer row) p w e r = other_word (codes "close") (codes "answer") refl (sym is ∙ e)
-no_close word rest is none (Hold row) p w e r = other_word (codes "close") (codes "hold") refl (sym is ∙ e)
-no_close word rest is none (Release number) p w e r = other_word (codes "close") (codes "release") refl (sym is ∙ e)
-no_close word rest is none (ReleaseWith number row) p w e r = other_word (codes "close") (codes "release") refl (sym is ∙ e)
-no_close word rest is none (Unanswer method) p w e r = other_word (codes "close") (codes "unanswer") refl (sym is ∙ e)
-no_close word rest is none (Emit event) p w e r = other_word (codes "close") (codes "emit") refl (sym is ∙ e)
-no_close word rest is none (On method events) p w e r = other_word (codes "close") (codes "on") refl (sym is ∙ e)
-no_close word rest is none (Names names) p w e r = other_word (codes "close") (codes "names") refl (sym is ∙ e)
-no_close word rest is none (Send c text) p w e r = other_word (codes "close") (codes "send") refl (sym is ∙ e)
-no_close word rest is none (Bytes c digits) p w e r = other_word (codes "close") (codes "bytes") refl (sym is ∙ e)
-no_close word rest is none (Cut c) p w e r = other_word (codes "close") (codes "cut") refl (sym is ∙ e)
 no_close word rest is none (Close c code) p w e r = none c code w.0 w.1 r
+no_close word rest is none l p w e r = other_word (codes "close") (word_of l) refl (sym is ∙ e)
+
+-- no line has the word `refuse` if its fields are wrong
+pub no_refuse : (word rest : List ℕ) → word ≡ codes "refuse"
+    → ((n code : ℕ) → n < 2 ^ 53 → code < 2 ^ 53 → rest ≡ decimal n ++ 32 ∷ decimal code → ⊥)
+    → (l : Line) → is_plain l ≡ false → IsWritable l → word ≡ word_of l → rest ≡ rest_of l → ⊥
+no_refuse word rest is none (Refuse n code) p w e r = none n code w.0 w.1 r
+no_refuse word rest is none l p w e r = other_word (codes "refuse") (word_of l) refl (sym is ∙ e)

@@ -31,7 +31,7 @@ use Rattle.bidi_scripted.specs.declared.scripted_end.ScriptedEnd.{ScriptedEnd}
 use Rattle.bidi_scripted.specs.declared.scripted_end.Taken.{Taken}
 use Rattle.bidi_sessions.specs.View.{sent_of}
 use Rattle.bidi_play.specs.Lines.{written}
-use Rattle.bidi_script_lines.specs.Outcomes.{Outcome, OfMachine, OfTest, Held, NoEffect, Bytes, Cut, Closed, outcome_of, outcome_text}
+use Rattle.bidi_script_lines.specs.Outcomes.{Outcome, OfMachine, OfTest, Held, NoEffect, Bytes, Raw, Stalled, Resumed, Cut, CutAfter, Closed, Refusing, outcome_of, outcome_text}
 use Rattle.bidi_script_lines.specs.declared.outcome.Outcome as declared
 use Rattle.bidi_script_lines.specs.ScriptLines.{Line}
 use Rattle.bidi_script_lines.specs.ScriptLines as line
@@ -83,6 +83,14 @@ is_hex digits = (length digits % 2 == 0) && list_all is_digit digits
 -- whether a server may close a connection with this code: RFC 6455, 7.4
 abbrev pub is_close_code : ℕ → Bool
 is_close_code n = (nat_le 1000 n && nat_le n 1003) || ((nat_le 1007 n && nat_le n 1013) || (nat_le 3000 n && nat_le n 4999))
+
+-- how many handshakes a line has refused at most
+abbrev pub most_refused : ℕ
+most_refused = 1000000
+
+-- whether so many handshakes can be refused by this status
+abbrev pub can_refuse : ℕ → ℕ → Bool
+can_refuse n status = nat_le n most_refused && (nat_le 400 status && nat_le status 599)
 
 -- the connection is not open, and nothing happens; or it is, and this does
 abbrev pub OnOpen : ℕ → List Input → ScriptedEnd → ScriptedEnd → Outcome → Type 0 → Type 0
@@ -157,12 +165,24 @@ Brings (line.Send c text) h old new o = OnOpen c h old new o ((o ≡ OfTest (Tex
 -- a binary message is sent
 Brings (line.Bytes c digits) h old new o =
     OnOpen c h old new o (((is_hex digits ≡ false) × HasNoEffect old new o) ⊎ ((is_hex digits ≡ true) × (o ≡ Bytes c digits) × IsUnchanged old new))
+-- bytes are sent without a frame
+Brings (line.Raw c digits) h old new o =
+    OnOpen c h old new o (((is_hex digits ≡ false) × HasNoEffect old new o) ⊎ ((is_hex digits ≡ true) × (o ≡ Raw c digits) × IsUnchanged old new))
+-- a connection is read no more
+Brings (line.Stall c) h old new o = OnOpen c h old new o ((o ≡ Stalled c) × IsUnchanged old new)
+-- a connection is read again
+Brings (line.Resume c) h old new o = OnOpen c h old new o ((o ≡ Resumed c) × IsUnchanged old new)
 -- a connection is dropped without a close frame
 Brings (line.Cut c) h old new o = OnOpen c h old new o ((o ≡ Cut c) × StandsFor new.end (Drop c ∷ h))
+-- a connection will be cut in its next message
+Brings (line.CutAfter c bytes) h old new o = OnOpen c h old new o ((o ≡ CutAfter c bytes) × IsUnchanged old new)
 -- a connection is closed with a code, and dropped
 Brings (line.Close c code) h old new o =
     OnOpen c h old new o (((is_close_code code ≡ false) × HasNoEffect old new o)
     ⊎ ((is_close_code code ≡ true) × (o ≡ Closed c code) × StandsFor new.end (Drop c ∷ h)))
+-- handshakes are refused
+Brings (line.Refuse n code) h old new o = ((can_refuse n code ≡ false) × HasNoEffect old new o)
+    ⊎ ((can_refuse n code ≡ true) × (o ≡ Refusing n code) × IsUnchanged old new)
 -- a held command is released, or there is none
 Brings (line.Release n) h old new o = Releases n h old new o
     ⊎ ((held_by n (script_of old.script) ≡ None) × (reason : List ℕ) × (o ≡ NoEffect reason) × StandsAsBefore old new)

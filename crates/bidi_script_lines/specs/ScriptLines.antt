@@ -20,8 +20,13 @@ pub data Line : Type 0 where
   Names : (names : List ℕ) → Line
   Send : (conn : ℕ) (text : List ℕ) → Line
   Bytes : (conn : ℕ) (digits : List ℕ) → Line
+  Raw : (conn : ℕ) (digits : List ℕ) → Line
+  Stall : (conn : ℕ) → Line
+  Resume : (conn : ℕ) → Line
   Cut : (conn : ℕ) → Line
+  CutAfter : (conn : ℕ) (bytes : ℕ) → Line
   Close : (conn : ℕ) (code : ℕ) → Line
+  Refuse : (number : ℕ) (code : ℕ) → Line
 
 -- whether it is a line of a play
 abbrev pub is_plain : Line → Bool
@@ -41,8 +46,13 @@ word_of (On method events) = codes "on"
 word_of (Names names) = codes "names"
 word_of (Send c text) = codes "send"
 word_of (Bytes c digits) = codes "bytes"
+word_of (Raw c digits) = codes "raw"
+word_of (Stall c) = codes "stall"
+word_of (Resume c) = codes "resume"
 word_of (Cut c) = codes "cut"
+word_of (CutAfter c bytes) = codes "cut"
 word_of (Close c code) = codes "close"
+word_of (Refuse n code) = codes "refuse"
 
 -- what follows that word and a space
 abbrev pub rest_of : Line → List ℕ
@@ -57,8 +67,13 @@ rest_of (On method events) = method ++ 32 ∷ events
 rest_of (Names names) = names
 rest_of (Send c text) = decimal c ++ 32 ∷ text
 rest_of (Bytes c digits) = decimal c ++ 32 ∷ digits
+rest_of (Raw c digits) = decimal c ++ 32 ∷ digits
+rest_of (Stall c) = decimal c
+rest_of (Resume c) = decimal c
 rest_of (Cut c) = decimal c
+rest_of (CutAfter c bytes) = decimal c ++ 32 ∷ decimal bytes
 rest_of (Close c code) = decimal c ++ 32 ∷ decimal code
+rest_of (Refuse n code) = decimal n ++ 32 ∷ decimal code
 
 -- the line as it is written, without its line feed
 -- example: `release 1`
@@ -83,8 +98,13 @@ IsWritable (On method events) = IsWord method
 IsWritable (Names names) = ⊤
 IsWritable (Send c text) = IsJsUint c
 IsWritable (Bytes c digits) = IsJsUint c
+IsWritable (Raw c digits) = IsJsUint c
+IsWritable (Stall c) = IsJsUint c
+IsWritable (Resume c) = IsJsUint c
 IsWritable (Cut c) = IsJsUint c
+IsWritable (CutAfter c bytes) = IsJsUint c × IsJsUint bytes
 IsWritable (Close c code) = IsJsUint c × IsJsUint code
+IsWritable (Refuse n code) = IsJsUint n × IsJsUint code
 
 -- a scripted play can have this line: its fields fit, and it is UTF-8 without a line feed and has at most 2,097,152 bytes
 pub record CanBeWritten (l : Line) : Type 0 where

@@ -22,10 +22,20 @@ pub enum Outcome {
     Held(u64),
     /// A binary message goes to the connection: its bytes as hexadecimal digits.
     Bytes(JsUint, String),
+    /// Bytes go to the connection without a frame: as hexadecimal digits.
+    Raw(JsUint, String),
+    /// Nothing more is read from the connection.
+    Stalled(JsUint),
+    /// The connection is read again.
+    Resumed(JsUint),
     /// The connection ends without a close frame.
     Cut(JsUint),
+    /// Of the frame of its next message the connection gets so many bytes, and then ends without a close frame.
+    CutAfter(JsUint, JsUint),
     /// The connection is closed with this code.
     Closed(JsUint, u16),
+    /// So many handshakes from now on are refused by this status.
+    Refusing(JsUint, u16),
     /// Nothing, for this reason.
     NoEffect(String),
 }
@@ -50,12 +60,32 @@ pub fn outcome_lines(
             let line = format!(in alloc; "bytes {} {digits}", conn.value)?;
             with_feed(line)
         }
+        Outcome::Raw(conn, digits) => {
+            let line = format!(in alloc; "raw {} {digits}", conn.value)?;
+            with_feed(line)
+        }
+        Outcome::Stalled(conn) => {
+            let line = format!(in alloc; "stall {}", conn.value)?;
+            with_feed(line)
+        }
+        Outcome::Resumed(conn) => {
+            let line = format!(in alloc; "resume {}", conn.value)?;
+            with_feed(line)
+        }
         Outcome::Cut(conn) => {
             let line = format!(in alloc; "cut {}", conn.value)?;
             with_feed(line)
         }
+        Outcome::CutAfter(conn, bytes) => {
+            let line = format!(in alloc; "cut {} {}", conn.value, bytes.value)?;
+            with_feed(line)
+        }
         Outcome::Closed(conn, code) => {
             let line = format!(in alloc; "close {} {code}", conn.value)?;
+            with_feed(line)
+        }
+        Outcome::Refusing(count, status) => {
+            let line = format!(in alloc; "refuse {} {status}", count.value)?;
             with_feed(line)
         }
         Outcome::NoEffect(reason) => {

@@ -12,8 +12,8 @@ ghost use Rattle.bidi_scripted.specs.View.{script_of};
 ghost use Rattle.bidi_script_lines.specs.ScriptLines as lines;
 ghost use Rattle.bidi_script_lines.specs.ScriptLines.{Plain};
 ghost use Rattle.bidi_script_lines.specs.View.{said_by};
-ghost use Rattle.bidi_script_lines.specs.Outcomes.{OfTest, Bytes, Cut, Closed, NoEffect, outcome_of};
-ghost use Rattle.bidi_script_lines.specs.Performing.{HasReason, TakesStep, HasNoEffect, IsUnchanged, StandsAsBefore, OnOpen, Brings, taken_outcome, is_hex, is_digit, is_close_code};
+ghost use Rattle.bidi_script_lines.specs.Outcomes.{OfTest, Bytes, Raw, Stalled, Resumed, Cut, CutAfter, Closed, Refusing, NoEffect, outcome_of};
+ghost use Rattle.bidi_script_lines.specs.Performing.{HasReason, TakesStep, HasNoEffect, IsUnchanged, StandsAsBefore, OnOpen, Brings, taken_outcome, is_hex, is_digit, is_close_code, can_refuse};
 
 use crate::outcome::Outcome;
 use crate::script_line::ScriptLine;
@@ -26,11 +26,17 @@ use std::alloc::{AllocError, Global};
 /// Why a line about a connection that is not open has no effect.
 const NOT_OPEN: &str = "the connection is not open";
 
-/// Why `bytes` has no effect.
+/// Why `bytes` and `raw` have no effect.
 const NOT_HEX: &str = "the bytes are not pairs of hexadecimal digits";
 
 /// Why `on` has no effect.
 const NO_EVENTS: &str = "the events are not an array of events";
+
+/// Why `refuse` has no effect.
+const NO_REFUSAL: &str = "no status from 400 to 599, or more than 1000000 handshakes";
+
+/// How many handshakes a line has refused at most.
+const MOST_REFUSED: u64 = 1_000_000;
 
 /// Why `close` has no effect.
 const NO_CODE: &str = "no close code that a server may send";
@@ -68,8 +74,13 @@ pub fn perform(
         ScriptLine::Names(names) => know(alloc, end, names.as_str()),
         ScriptLine::Send(conn, text) => send(alloc, end, conn, text),
         ScriptLine::Bytes(conn, digits) => send_bytes(alloc, end, conn, digits),
+        ScriptLine::Raw(conn, digits) => send_raw(alloc, end, conn, digits),
+        ScriptLine::Stall(conn) => stall(alloc, end, conn),
+        ScriptLine::Resume(conn) => resume(alloc, end, conn),
         ScriptLine::Cut(conn) => cut(alloc, end, conn),
+        ScriptLine::CutAfter(conn, bytes) => cut_after(alloc, end, conn, bytes),
         ScriptLine::Close(conn, code) => close(alloc, end, conn, code),
+        ScriptLine::Refuse(number, code) => refuse(alloc, number, code),
     }
 }
 
@@ -271,6 +282,51 @@ fn send_bytes(
     Ok(Outcome::Bytes(conn, digits))
 }
 
+// Sends bytes on a connection without a frame.
+fn send_raw(
+    alloc: Global,
+    end: &ScriptedEnd,
+    conn: JsUint,
+    digits: String,
+) -> Result<Outcome, RemoteFault>
+    ensures brings { (h : List Input) → StandsFor end.now.end h → IfOk result (λ o. OnOpen conn.value h end.now end.now (outcome_of o)
+        (((is_hex (string_bytes digits) ≡ false) × HasNoEffect end.now end.now (outcome_of o))
+        ⊎ ((is_hex (string_bytes digits) ≡ true) × (outcome_of o ≡ Raw conn.value (string_bytes digits)) × IsUnchanged end.now end.now))) }
+    ensures worn_out { IsErrOf result RemoteFault.WornOut → ⊥ }
+{
+    if !end.is_open(conn) {
+        return no_effect(alloc, NOT_OPEN);
+    }
+    if !is_hex(digits.as_str()) {
+        return no_effect(alloc, NOT_HEX);
+    }
+    Ok(Outcome::Raw(conn, digits))
+}
+
+// Has nothing more read from a connection.
+fn stall(alloc: Global, end: &ScriptedEnd, conn: JsUint) -> Result<Outcome, RemoteFault>
+    ensures brings { (h : List Input) → StandsFor end.now.end h → IfOk result (λ o. OnOpen conn.value h end.now end.now (outcome_of o)
+        ((outcome_of o ≡ Stalled conn.value) × IsUnchanged end.now end.now)) }
+    ensures worn_out { IsErrOf result RemoteFault.WornOut → ⊥ }
+{
+    if !end.is_open(conn) {
+        return no_effect(alloc, NOT_OPEN);
+    }
+    Ok(Outcome::Stalled(conn))
+}
+
+// Has a connection read again.
+fn resume(alloc: Global, end: &ScriptedEnd, conn: JsUint) -> Result<Outcome, RemoteFault>
+    ensures brings { (h : List Input) → StandsFor end.now.end h → IfOk result (λ o. OnOpen conn.value h end.now end.now (outcome_of o)
+        ((outcome_of o ≡ Resumed conn.value) × IsUnchanged end.now end.now)) }
+    ensures worn_out { IsErrOf result RemoteFault.WornOut → ⊥ }
+{
+    if !end.is_open(conn) {
+        return no_effect(alloc, NOT_OPEN);
+    }
+    Ok(Outcome::Resumed(conn))
+}
+
 // Ends a connection without a close frame.
 fn cut(alloc: Global, end: &mut ScriptedEnd, conn: JsUint) -> Result<Outcome, RemoteFault>
     ensures brings { (h : List Input) → StandsFor end.old.end h → IfOk result (λ o. OnOpen conn.value h end.old end.new (outcome_of o)
@@ -283,6 +339,23 @@ fn cut(alloc: Global, end: &mut ScriptedEnd, conn: JsUint) -> Result<Outcome, Re
     }
     end.step(Step::Drop(conn))?;
     Ok(Outcome::Cut(conn))
+}
+
+// Has a connection end in its next message.
+fn cut_after(
+    alloc: Global,
+    end: &ScriptedEnd,
+    conn: JsUint,
+    bytes: JsUint,
+) -> Result<Outcome, RemoteFault>
+    ensures brings { (h : List Input) → StandsFor end.now.end h → IfOk result (λ o. OnOpen conn.value h end.now end.now (outcome_of o)
+        ((outcome_of o ≡ CutAfter conn.value bytes.value) × IsUnchanged end.now end.now)) }
+    ensures worn_out { IsErrOf result RemoteFault.WornOut → ⊥ }
+{
+    if !end.is_open(conn) {
+        return no_effect(alloc, NOT_OPEN);
+    }
+    Ok(Outcome::CutAfter(conn, bytes))
 }
 
 // Closes a connection with a code.
@@ -306,6 +379,31 @@ fn close(
     };
     end.step(Step::Drop(conn))?;
     Ok(Outcome::Closed(conn, code))
+}
+
+// Has handshakes refused.
+fn refuse(alloc: Global, number: JsUint, code: JsUint) -> Result<Outcome, RemoteFault>
+    ensures brings { (h : List Input) (end : ScriptedEnd) → IfOk result (λ o. Brings (lines.Refuse number.value code.value) h end end (outcome_of o)) }
+    ensures worn_out { IsErrOf result RemoteFault.WornOut → ⊥ }
+{
+    match refusing_status(number, code) {
+        None => no_effect(alloc, NO_REFUSAL),
+        Some(status) => Ok(Outcome::Refusing(number, status)),
+    }
+}
+
+// The status of this number, if so many handshakes can be refused by it.
+fn refusing_status(number: JsUint, code: JsUint) -> Option<u16>
+    ensures some { IfSome result (λ status. (status ≡ code.value) × (can_refuse number.value code.value ≡ true)) }
+    ensures none { IfNone result (can_refuse number.value code.value ≡ false) }
+{
+    if number.value > MOST_REFUSED {
+        return None;
+    }
+    match code.value {
+        400..=599 => Some(code.value as u16),
+        _ => None,
+    }
 }
 
 // The outcome of a line that the scripted end refuses.

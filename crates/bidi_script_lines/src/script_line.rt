@@ -3,7 +3,7 @@ ghost use Rattle.std.specs.Prelude.{◌≡◌, ℕ, ◌<◌, ◌^◌, List, ◌�
 ghost use Rattle.bidi_lines.specs.Feeds.{has_feed};
 ghost use Rattle.bidi_sessions.specs.Step.{Step as Taking};
 ghost use Rattle.bidi_play.specs.Lines.{line_of, IsSayable, CanBeSaid};
-ghost use Rattle.bidi_script_lines.specs.ScriptLines.{Line, On, Send, Bytes, Close, script_line_of, is_plain, word_of, rest_of, IsWord, IsWritable, CanBeWritten};
+ghost use Rattle.bidi_script_lines.specs.ScriptLines.{Line, On, Send, Bytes, Raw, script_line_of, is_plain, word_of, rest_of, IsWord, IsWritable, CanBeWritten};
 ghost use Rattle.bidi_script_lines.specs.View.{said_by};
 
 use bidi_lines::LONGEST_LINE;
@@ -37,10 +37,20 @@ pub enum ScriptLine {
     Send(JsUint, String),
     /// `bytes C HEX`: a binary message goes to the connection.
     Bytes(JsUint, String),
+    /// `raw C HEX`: bytes go to the connection without a frame.
+    Raw(JsUint, String),
+    /// `stall C`: nothing more is read from the connection.
+    Stall(JsUint),
+    /// `resume C`: the connection is read again.
+    Resume(JsUint),
     /// `cut C`: the connection ends without a close frame.
     Cut(JsUint),
+    /// `cut C AFTER`: the connection ends after so many bytes of the frame of its next message.
+    CutAfter(JsUint, JsUint),
     /// `close C CODE`: the connection is closed with the code.
     Close(JsUint, JsUint),
+    /// `refuse N CODE`: the next handshakes are refused by the status.
+    Refuse(JsUint, JsUint),
 }
 
 /// Reads a line as one of a scripted play; `None` if it is not one.
@@ -120,10 +130,18 @@ fn read_order(alloc: Global, word: &str, rest: &str) -> Result<Option<ScriptLine
         read_send(alloc, rest)
     } else if is_same_text(word, "bytes") {
         read_bytes(alloc, rest)
+    } else if is_same_text(word, "raw") {
+        read_raw(alloc, rest)
+    } else if is_same_text(word, "stall") {
+        Ok(read_number(rest).map(ScriptLine::Stall))
+    } else if is_same_text(word, "resume") {
+        Ok(read_number(rest).map(ScriptLine::Resume))
     } else if is_same_text(word, "cut") {
-        Ok(read_number(rest).map(ScriptLine::Cut))
+        Ok(read_cut(rest))
     } else if is_same_text(word, "close") {
         Ok(read_close(rest))
+    } else if is_same_text(word, "refuse") {
+        Ok(read_refuse(rest))
     } else {
         Ok(None)
     }
@@ -195,18 +213,69 @@ fn read_bytes(alloc: Global, rest: &str) -> Result<Option<ScriptLine>, AllocErro
     }
 }
 
+// Reads what follows `raw `.
+fn read_raw(alloc: Global, rest: &str) -> Result<Option<ScriptLine>, AllocError>
+    ensures some { IfOk result (λ found. IfSome found (λ l. (n : ℕ) × (digits : List ℕ) × (said_by l ≡ Raw n digits) × (n < 2 ^ 53)
+        × (rest.now ≡ decimal n ++ 32 ∷ digits))) }
+    ensures none { IfOk result (λ found. IfNone found ((n : ℕ) (digits : List ℕ) → n < 2 ^ 53 → rest.now ≡ decimal n ++ 32 ∷ digits → ⊥)) }
+{
+    match number_and_text(rest) {
+        None => Ok(None),
+        Some((conn, digits)) => {
+            let digits = String::from_str(alloc, digits)?;
+            Ok(Some(ScriptLine::Raw(conn, digits)))
+        }
+    }
+}
+
+// Reads what follows `cut `.
+fn read_cut(rest: &str) -> Option<ScriptLine>
+    ensures some { IfSome result (λ l. IsWritable (said_by l) × (word_of (said_by l) ≡ codes "cut") × (rest.now ≡ rest_of (said_by l)) × (is_plain (said_by l) ≡ false)) }
+    ensures none { IfNone result (((n : ℕ) → n < 2 ^ 53 → rest.now ≡ decimal n → ⊥)
+        × ((n bytes : ℕ) → n < 2 ^ 53 → bytes < 2 ^ 53 → rest.now ≡ decimal n ++ 32 ∷ decimal bytes → ⊥)) }
+{
+    if let Some(conn) = read_number(rest) {
+        return Some(ScriptLine::Cut(conn));
+    }
+    match two_numbers(rest) {
+        None => None,
+        Some((conn, bytes)) => Some(ScriptLine::CutAfter(conn, bytes)),
+    }
+}
+
 // Reads what follows `close `.
 fn read_close(rest: &str) -> Option<ScriptLine>
-    ensures some { IfSome result (λ l. (n : ℕ) × (code : ℕ) × (said_by l ≡ Close n code) × (n < 2 ^ 53) × (code < 2 ^ 53)
-        × (rest.now ≡ decimal n ++ 32 ∷ decimal code)) }
+    ensures some { IfSome result (λ l. IsWritable (said_by l) × (word_of (said_by l) ≡ codes "close") × (rest.now ≡ rest_of (said_by l)) × (is_plain (said_by l) ≡ false)) }
     ensures none { IfNone result ((n code : ℕ) → n < 2 ^ 53 → code < 2 ^ 53 → rest.now ≡ decimal n ++ 32 ∷ decimal code → ⊥) }
 {
-    let Some((conn, code)) = number_and_text(rest) else {
+    match two_numbers(rest) {
+        None => None,
+        Some((conn, code)) => Some(ScriptLine::Close(conn, code)),
+    }
+}
+
+// Reads what follows `refuse `.
+fn read_refuse(rest: &str) -> Option<ScriptLine>
+    ensures some { IfSome result (λ l. IsWritable (said_by l) × (word_of (said_by l) ≡ codes "refuse") × (rest.now ≡ rest_of (said_by l)) × (is_plain (said_by l) ≡ false)) }
+    ensures none { IfNone result ((n code : ℕ) → n < 2 ^ 53 → code < 2 ^ 53 → rest.now ≡ decimal n ++ 32 ∷ decimal code → ⊥) }
+{
+    match two_numbers(rest) {
+        None => None,
+        Some((number, code)) => Some(ScriptLine::Refuse(number, code)),
+    }
+}
+
+// Reads two numbers with a space between.
+fn two_numbers(rest: &str) -> Option<(JsUint, JsUint)>
+    ensures some { IfSome result (λ x. rest.now ≡ decimal x.0.value ++ 32 ∷ decimal x.1.value) }
+    ensures none { IfNone result ((n code : ℕ) → n < 2 ^ 53 → code < 2 ^ 53 → rest.now ≡ decimal n ++ 32 ∷ decimal code → ⊥) }
+{
+    let Some((first, second)) = number_and_text(rest) else {
         return None;
     };
-    match read_number(code) {
+    match read_number(second) {
         None => None,
-        Some(code) => Some(ScriptLine::Close(conn, code)),
+        Some(second) => Some((first, second)),
     }
 }
 

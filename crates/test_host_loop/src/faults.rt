@@ -67,6 +67,121 @@ fn a_message_is_sent_and_a_connection_cut(rt: HostRuntime) -> Result<(), Fail> {
     check_scene(&rt, PLAIN, "", SENT)
 }
 
+const RAW: &str = r#"1 begins @s1
+page opens /page
+page says raw 1 88020
+page hears no effect: the bytes are not pairs of hexadecimal digits
+page says raw 2 8802
+page hears no effect: the connection is not open
+page says raw 1
+page hears no line of a page: wants raw C HEX
+1 is served
+page says raw 1 8802
+page hears ok
+page says raw 1 0fa1
+page hears ok
+1 is closed 4001
+record ends drop 1"#;
+
+/// The bytes of a close frame come in two parts.
+#[test]
+fn bytes_are_sent_without_a_frame(rt: HostRuntime) -> Result<(), Fail> {
+    check_scene(&rt, PLAIN, "", RAW)
+}
+
+const STALLED: &str = r#"1 begins @s1
+page opens /page
+page says stall 2
+page hears no effect: the connection is not open
+page says stall
+page hears no line of a page: wants stall C
+page says stall 1
+page hears ok
+1 says STATUS
+host rests
+record ends stall 1
+page says send 1 x
+page hears ok
+1 has x
+page says resume 1
+page hears ok
+1 hears READY
+page says stall 1
+page hears ok
+1 leaves
+host rests
+record ends stall 1
+page says resume 1
+page hears ok
+record ends drop 1
+2 begins @s2
+page says stall 2
+page hears ok
+page says reset
+page hears ok
+2 is closed 1001"#;
+
+#[test]
+fn a_connection_is_not_read_for_a_while(rt: HostRuntime) -> Result<(), Fail> {
+    check_scene(&rt, PLAIN, "", STALLED)
+}
+
+const REFUSED: &str = r#"page opens /page
+page says refuse 1 200
+page hears no effect: no status from 400 to 599, or more than 1000000 handshakes
+page says refuse 2 429
+page hears ok
+other opens /page
+other asks GET /session HTTP/1.1|FIELDS
+other gets 429 refused by a test
+other asks GET /nowhere HTTP/1.1|FIELDS
+other gets 429 refused by a test
+1 begins @s1
+record ends > 1 {"id":0,"method":"session.new","params":{"capabilities":{}}}
+page says refuse 9 503
+page hears ok
+page says refuse 0 503
+page hears ok
+2 opens /session/@s1
+page says refuse 9 503
+page hears ok
+page says reset
+page hears ok
+1 is closed 1001
+2 is closed 1001
+1 begins @s1"#;
+
+#[test]
+fn handshakes_are_refused(rt: HostRuntime) -> Result<(), Fail> {
+    check_scene(&rt, PLAIN, "", REFUSED)
+}
+
+const CUT_OFF: &str = r#"1 begins @s1
+page opens /page
+page says cut 2 5
+page hears no effect: the connection is not open
+page says cut 1 x
+page hears no line of a page: wants cut C or cut C AFTER
+page says cut 1 40
+page hears ok
+page says raw 1 8900
+page hears ok
+1 says STATUS
+1 is lost
+record ends drop 1
+1 opens /session/@s1
+page says cut 2 0
+page hears ok
+page says bytes 2 00ff
+page hears ok
+1 is lost
+record ends drop 2"#;
+
+#[test]
+fn a_connection_ends_in_a_message(rt: HostRuntime) -> Result<(), Fail> {
+    check_scene(&rt, PLAIN, "", CUT_OFF)
+}
+
 const CLOSED: &str = r#"1 begins @s1
 page opens /page
 page says close 1 1005

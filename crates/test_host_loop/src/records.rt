@@ -10,7 +10,7 @@ use std::test::Fail;
 /// Whether each record, played in memory, gives each client the texts that it read, byte for byte and in order; and whether no
 /// text is given to anyone else.
 ///
-/// A client that left, or that was closed as it read too slowly, may have read less. The host itself reads the texts for a call.
+/// A client that left, that was closed as it read too slowly, or that was cut off in a message, may have read less. The host itself reads the texts for a call.
 ///
 /// # Errors
 /// The first record or client for which it is not so.
@@ -65,8 +65,10 @@ fn check_client(lab: &mut Lab, place: usize, epoch: usize, written: &str) -> Res
     let front = format!(in lab.alloc; "< {} ", conn.number)?;
     let wanted = texts_to(lab.alloc, written, front.as_str())?;
     lab.wait_for_texts(place, wanted.len())?;
+    let cut = format!(in lab.alloc; "cut {} ", conn.number)?;
+    let is_cut_off = written.lines().any(|line| line.starts_with(cut.as_str()));
     let client = lab.client(place)?;
-    if has_read(client, &wanted) {
+    if has_read(client, &wanted, is_cut_off) {
         Ok(wanted.len())
     } else {
         Err(Fail::new(format_args!(
@@ -99,14 +101,14 @@ fn texts_to<'a>(alloc: Global, written: &'a str, front: &str) -> Result<Vec<&'a 
     Ok(texts)
 }
 
-/// Whether a client read the texts that a play gives it.
-fn has_read(client: &Client, wanted: &[&str]) -> bool {
+/// Whether a client read the texts that a play gives it. It may have read less if it was cut off in one.
+fn has_read(client: &Client, wanted: &[&str], is_cut_off: bool) -> bool {
     let is_same = wanted
         .iter()
         .zip(client.texts.iter())
         .all(|(wanted, found)| *wanted == found.as_str());
     let count = client.texts.len();
-    is_same && (count == wanted.len() || may_lack(client) && count < wanted.len())
+    is_same && (count == wanted.len() || (is_cut_off || may_lack(client)) && count < wanted.len())
 }
 
 /// Whether a client may have read less than was sent to it.

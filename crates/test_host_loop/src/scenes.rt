@@ -108,13 +108,13 @@ page hears no effect: unknown context
 page says at 05
 page hears no line of a page: "05" is no moment, a whole number from 0 to 9007199254740991
 page says open 1 /session
-page hears no line of a page: "open" is none of at, frame, unframe, log, value, answer, hold, release, unanswer, emit, on, names, send, bytes, cut, close, reset and end
+page hears no line of a page: "open" is none of at, frame, unframe, log, value, answer, hold, release, unanswer, emit, on, names, send, bytes, raw, stall, resume, cut, close, refuse, reset and end
 page says drop 1
-page hears no line of a page: "drop" is none of at, frame, unframe, log, value, answer, hold, release, unanswer, emit, on, names, send, bytes, cut, close, reset and end
+page hears no line of a page: "drop" is none of at, frame, unframe, log, value, answer, hold, release, unanswer, emit, on, names, send, bytes, raw, stall, resume, cut, close, refuse, reset and end
 page says > 1 STATUS
-page hears no line of a page: ">" is none of at, frame, unframe, log, value, answer, hold, release, unanswer, emit, on, names, send, bytes, cut, close, reset and end
+page hears no line of a page: ">" is none of at, frame, unframe, log, value, answer, hold, release, unanswer, emit, on, names, send, bytes, raw, stall, resume, cut, close, refuse, reset and end
 page says binary 1
-page hears no line of a page: "binary" is none of at, frame, unframe, log, value, answer, hold, release, unanswer, emit, on, names, send, bytes, cut, close, reset and end
+page hears no line of a page: "binary" is none of at, frame, unframe, log, value, answer, hold, release, unanswer, emit, on, names, send, bytes, raw, stall, resume, cut, close, refuse, reset and end
 page says log @c1 fatal x
 page hears no line of a page: "fatal" is no level: debug, info, warn or error
 page says log @c1 info
@@ -130,13 +130,13 @@ page hears no line of a page: wants value ROW
 page says at
 page hears no line of a page: wants at N
 page says resets
-page hears no line of a page: "resets" is none of at, frame, unframe, log, value, answer, hold, release, unanswer, emit, on, names, send, bytes, cut, close, reset and end
+page hears no line of a page: "resets" is none of at, frame, unframe, log, value, answer, hold, release, unanswer, emit, on, names, send, bytes, raw, stall, resume, cut, close, refuse, reset and end
 page says reset now
 page hears no line of a page: nothing may stand behind `reset` and `end`
 page says ‹70 x› y
-page hears no line of a page: a word of 70 bytes is none of at, frame, unframe, log, value, answer, hold, release, unanswer, emit, on, names, send, bytes, cut, close, reset and end
+page hears no line of a page: a word of 70 bytes is none of at, frame, unframe, log, value, answer, hold, release, unanswer, emit, on, names, send, bytes, raw, stall, resume, cut, close, refuse, reset and end
 page says
-page hears no line of a page: "" is none of at, frame, unframe, log, value, answer, hold, release, unanswer, emit, on, names, send, bytes, cut, close, reset and end
+page hears no line of a page: "" is none of at, frame, unframe, log, value, answer, hold, release, unanswer, emit, on, names, send, bytes, raw, stall, resume, cut, close, refuse, reset and end
 page says at 5\n
 page hears no line of a page: a line feed in it
 page says at 5\nat 6
@@ -163,9 +163,9 @@ fn each_line_of_a_page_is_answered(rt: HostRuntime) -> Result<(), Fail> {
 
 const ROWS: &str = r##"page opens /page
 page says value {"text":5,"returns":{"type":"undefined"}}
-page hears no effect: /text: wants a text, has 5 (TableRow)
+page hears no effect: /text: wants a string, has 5 (TableRow)
 page says value {"text":"x","returns":{"type":"string","value":2}}
-page hears no effect: /returns/value: wants a text, has 2 (Primitive)
+page hears no effect: /returns/value: wants a string, has 2 (Primitive)
 page says value {"text":"x","returns":{"type":"array","value":[{"type":"error","handle":"h"}]}}
 page hears no effect: a value of a row has no `handle` and no `internalId`
 page says value {"text":"x"
@@ -583,8 +583,8 @@ input types open 1 /session
 input types
 input types at 5
 input hears no effect: unknown context
-input hears no line of a page: "open" is none of at, frame, unframe, log, value, answer, hold, release, unanswer, emit, on, names, send, bytes, cut, close, reset and end
-input hears no line of a page: "" is none of at, frame, unframe, log, value, answer, hold, release, unanswer, emit, on, names, send, bytes, cut, close, reset and end
+input hears no line of a page: "open" is none of at, frame, unframe, log, value, answer, hold, release, unanswer, emit, on, names, send, bytes, raw, stall, resume, cut, close, refuse, reset and end
+input hears no line of a page: "" is none of at, frame, unframe, log, value, answer, hold, release, unanswer, emit, on, names, send, bytes, raw, stall, resume, cut, close, refuse, reset and end
 input hears ok
 page opens /page
 input types reset

@@ -121,6 +121,16 @@ fn an_upgrade_that_is_refused_is_told_why(rt: HostRuntime) -> Result<(), Fail> {
     check_rows::<Answers>(rt.alloc(), UPGRADES)
 }
 
+const REFUSED: &str = "
+by a test | status429 GET /session HTTP/1.1;UPGRADE;KEY -> 429 Refused, refused by a test
+after what is wrong | status429 GET /session HTTP/1.1;Origin: http://a.test;UPGRADE;KEY -> 403 Forbidden, forbidden
+";
+
+#[test]
+fn a_test_refuses_a_handshake(rt: HostRuntime) -> Result<(), Fail> {
+    check_rows::<Answers>(rt.alloc(), REFUSED)
+}
+
 /// The lines, where a word stands for so many of a part.
 fn spelled(
     alloc: Global,
@@ -165,12 +175,19 @@ fn answer(
 ) -> Result<(), Fail> {
     let wire = Wire::new(alloc, word, script, written)?;
     let mut peer = Peer::new(alloc, wire);
-    let refusal = if word == "full" {
-        RequestRefusal::Full
+    answer_peer(&mut peer, refusal_of(word)?)
+}
+
+/// How a word has a connection refused.
+fn refusal_of(word: &str) -> Result<RequestRefusal, Fail> {
+    if let Some(status) = word.strip_prefix("status") {
+        return Ok(RequestRefusal::OfTest(status.parse::<u16>()?));
+    }
+    if word == "full" {
+        Ok(RequestRefusal::Full)
     } else {
-        RequestRefusal::NotFound
-    };
-    answer_peer(&mut peer, refusal)
+        Ok(RequestRefusal::NotFound)
+    }
 }
 
 /// Takes until the connection is over, and refuses it where it asks.

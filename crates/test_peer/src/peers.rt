@@ -63,6 +63,38 @@ fn messages_are_taken_and_sent_in_order(rt: HostRuntime) -> Result<(), Fail> {
     check_rows::<Peers>(rt.alloc(), MESSAGES)
 }
 
+const RAW: &str = "
+whole HEAD {} / take open take raw:c1 send state take -> Asks(/session) {} open - / 101 c1 81 02 7b 7d
+a frame in two parts | whole HEAD {} / take open raw:8102 raw:7b7d take -> Asks(/session) {} / 101 81 02 7b 7d
+behind what waits | takes129 HEAD / take open send:3 raw:ff flushes -> Asks(/session) / 101 81 03 78 78 78 ff
+nothing | whole HEAD / take open raw: state -> Asks(/session) open / 101
+before it is open | whole HEAD / raw:ff take raw:ff state -> Asks(/session) busy /
+behind a close | whole HEAD / take open done raw:ff state -> Asks(/session) busy / 101 88 02 03 e8
+a write that fails | breaks129 HEAD / take open raw:ff state take take state -> Asks(/session) busy Ended - over / 101
+";
+
+const PARTS: &str = "
+a head | whole HEAD {} / take open part:1 state take state take -> Asks(/session) busy Ended over - / 101 81
+a part of a text | whole HEAD {} / take open part:3 take state -> Asks(/session) Ended over / 101 81 02 7b
+all, and no more | whole HEAD / take open part:9 send take state -> Asks(/session) Ended over / 101 81 02 7b 7d
+nothing | whole HEAD / take open part:0 take state -> Asks(/session) Ended over / 101
+of bytes | whole HEAD / take open bytes:3 take state -> Asks(/session) Ended over / 101 82 02 7b
+behind what waits | takes129 HEAD / take open send:3 part:1 state take state flushes state -> Asks(/session) waits Ended waits over / 101 81 03 78 78 78 81
+before it is open | whole HEAD / take part:1 open state -> Asks(/session) open / 101
+behind a close | whole HEAD / take open done part:1 state -> Asks(/session) busy / 101 88 02 03 e8
+a write that fails | breaks129 HEAD / take open part:2 state take take state -> Asks(/session) busy Ended - over / 101
+";
+
+#[test]
+fn a_message_is_cut_off(rt: HostRuntime) -> Result<(), Fail> {
+    check_rows::<Peers>(rt.alloc(), PARTS)
+}
+
+#[test]
+fn bytes_go_out_without_a_frame(rt: HostRuntime) -> Result<(), Fail> {
+    check_rows::<Peers>(rt.alloc(), RAW)
+}
+
 // ---- closes
 
 const CLOSES: &str = "
@@ -135,6 +167,7 @@ const TOO_SLOW: &str = "
 takes1+bound400 / take open send:100 send:100 send:100 state take take send state flushes -> Asks(/session) waits Ended - waits / 2 1013 words
 takes1+bound133 / take open send send state take flushes state -> Asks(/session) waits Ended busy / 1 1013 words
 and then the end | takes1+bound130+ends / take open send take flushes take take state -> Asks(/session) Ended - - over / 0 1013 words
+bytes without a frame | takes1+bound130+ends / take open raw:7b7b7b7b take flushes take take state -> Asks(/session) Ended - - over / 0 1013 words
 pings | takes1+bound140 PING*20 / take open take take state flushes -> Asks(/session) - Ended waits / 5 1013 words
 ";
 
@@ -294,7 +327,7 @@ fn push_call(
         "shed" => peer.shed()?,
         "held" => write!(told, "{held} ", held = peer.held())?,
         "state" => push_state(told, peer)?,
-        _ => send_long(alloc, peer, call)?,
+        _ => send_more(alloc, peer, call)?,
     }
     Ok(())
 }
@@ -353,13 +386,30 @@ fn push_state(told: &mut String, peer: &Peer<Wire<'_>>) -> Result<(), Fail> {
     Ok(told.push_str(state)?)
 }
 
-/// Sends a text of as many letters as a call says.
-fn send_long(alloc: Global, peer: &mut Peer<Wire<'_>>, call: &str) -> Result<(), Fail> {
-    let length = call.strip_prefix("send:").ok_or("no such call")?;
-    let text = "x".repeat(alloc, length.parse::<usize>()?)?;
-    peer.send(text.as_str())?;
+/// Sends a text of as many letters as a call says, the bytes that it has, or so many bytes of a frame.
+fn send_more(alloc: Global, peer: &mut Peer<Wire<'_>>, call: &str) -> Result<(), Fail> {
+    let (name, what) = call.split_once(':').ok_or("no such call")?;
+    match name {
+        "send" => {
+            let text = "x".repeat(alloc, what.parse::<usize>()?)?;
+            peer.send(text.as_str())?;
+        }
+        "raw" => peer.send_raw(&pairs_of(alloc, what)?)?,
+        "part" => peer.send_part("{}", what.parse::<usize>()?)?,
+        "bytes" => peer.send_part_of_bytes(b"{}", what.parse::<usize>()?)?,
+        _ => return Err(Fail::from("no such call")),
+    }
     peer.flush();
     Ok(())
+}
+
+/// The bytes of pairs of digits.
+fn pairs_of(alloc: Global, digits: &str) -> Result<Vec<u8>, Fail> {
+    let mut bytes = Vec::new(alloc);
+    for pair in digits.as_bytes().chunks(2) {
+        bytes.push(u8::from_str_radix(str::from_utf8(pair)?, 16)?)?;
+    }
+    Ok(bytes)
 }
 
 // ---- what is written

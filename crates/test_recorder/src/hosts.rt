@@ -47,7 +47,28 @@ page_line send 1 x -> send 1 x, < 1 x
 page_line send 7 x -> send 7 x, no effect: the connection is not open
 page_line bytes 1 0aF -> bytes 1 0aF, no effect: the bytes are not pairs of hexadecimal digits
 page_line bytes 1 00aF -> bytes 1 00aF, bytes 1 00aF
+page_line raw 1 B1f -> raw 1 B1f, no effect: the bytes are not pairs of hexadecimal digits
+page_line raw 7 B1 -> raw 7 B1, no effect: the connection is not open
+page_line raw 1 B1ff -> raw 1 B1ff, raw 1 B1ff
+page_line raw 1 -> no line of a page
+page_line stall 1 -> stall 1, stall 1
+page_line stall 7 -> stall 7, no effect: the connection is not open
+page_line resume 1 -> resume 1, resume 1
+page_line resume 7 -> resume 7, no effect: the connection is not open
+page_line stall 1 2 -> no line of a page
 page_line close 1 999 -> close 1 999, no effect: no close code that a server may send
+page_line cut 1 0 -> cut 1 0, cut 1 0
+page_line cut 7 3 -> cut 7 3, no effect: the connection is not open
+page_line cut 1 x -> no line of a page
+page_line cut 1 2 3 -> no line of a page
+is_open 1 -> yes
+page_line refuse 1 503 -> refuse 1 503, refuse 1 503
+page_line refuse 0 400 -> refuse 0 400, refuse 0 400
+page_line refuse 1000000 599 -> refuse 1000000 599, refuse 1000000 599
+page_line refuse 1000001 503 -> refuse 1000001 503, no effect: no status from 400 to 599, or more than 1000000 handshakes
+page_line refuse 1 399 -> refuse 1 399, no effect: no status from 400 to 599, or more than 1000000 handshakes
+page_line refuse 1 600 -> refuse 1 600, no effect: no status from 400 to 599, or more than 1000000 handshakes
+page_line refuse 1 -> no line of a page
 page_line release x -> no line of a page
 page_line  -> no line of a page
 page_line at 05 -> no line of a page
@@ -212,8 +233,17 @@ fn told(alloc: Global, taken: Recorded) -> Result<String, AllocError> {
         Outcome::OfMachine(sent) | Outcome::Sent(sent) => told_sent(alloc, line, sent),
         Outcome::Held(number) => format!(in alloc; "{line}, held {number}"),
         Outcome::Bytes(conn, digits) => format!(in alloc; "{line}, bytes {} {digits}", conn.value),
+        Outcome::Raw(conn, digits) => format!(in alloc; "{line}, raw {} {digits}", conn.value),
+        Outcome::Stalled(conn) => format!(in alloc; "{line}, stall {}", conn.value),
+        Outcome::Resumed(conn) => format!(in alloc; "{line}, resume {}", conn.value),
         Outcome::Cut(conn) => format!(in alloc; "{line}, cut {}", conn.value),
+        Outcome::CutAfter(conn, bytes) => {
+            format!(in alloc; "{line}, cut {} {}", conn.value, bytes.value)
+        }
         Outcome::Closed(conn, code) => format!(in alloc; "{line}, close {} {code}", conn.value),
+        Outcome::Refusing(count, status) => {
+            format!(in alloc; "{line}, refuse {} {status}", count.value)
+        }
         Outcome::NoEffect(reason) => format!(in alloc; "{line}, no effect: {reason}"),
     }
 }

@@ -78,6 +78,50 @@ test('a binary message comes', withHost(async host => {
   assert.deepEqual([...new Uint8Array(await client.next())], [0, 255])
 }))
 
+for (const [what, frame] of [['a reserved bit', 'c100'], ['a mask', '818000000000'], ['no beginning', '8000']]) {
+  test(`a frame is broken: ${what}`, withHost(async host => {
+    const { socket } = await driving(host)
+    const closed = new Promise(resolve => { socket.onclose = resolve })
+    socket.onerror = () => {}
+    assert.equal(await host.page(`raw 1 ${frame}`), 'ok')
+    assert.notEqual((await closed).code, 1000)
+  }))
+}
+
+test('a message comes in parts, with a ping between', withHost(async host => {
+  const client = await driving(host)
+  assert.equal(await host.page('raw 1 01017b'), 'ok')
+  assert.equal(await host.page('raw 1 890080017d'), 'ok')
+  assert.equal(await client.next(), '{}')
+}))
+
+test('the server does not read', withHost(async host => {
+  const client = await driving(host)
+  assert.equal(await host.page('stall 1'), 'ok')
+  client.send(1, 'session.status')
+  assert.equal(await host.page('send 1 {"id":0}'), 'ok')
+  assert.equal((await client.message()).id, 0)
+  assert.equal(await host.page('resume 1'), 'ok')
+  assert.equal((await client.message()).id, 1)
+}))
+
+test('a handshake is refused', withHost(async host => {
+  assert.equal(await host.page('refuse 1 503'), 'ok')
+  await assert.rejects(host.connect())
+  const client = await driving(host)
+  client.send(1, 'session.status')
+  assert.equal((await client.message()).id, 1)
+}))
+
+test('a message is cut off', withHost(async host => {
+  const { socket, send } = await driving(host)
+  const closed = new Promise(resolve => { socket.onclose = resolve })
+  socket.onerror = () => {}
+  assert.equal(await host.page('cut 1 10'), 'ok')
+  send(1, 'session.status')
+  assert.equal((await closed).code, 1006)
+}))
+
 test('an unknown event comes', withHost(async host => {
   const client = await driving(host)
   assert.equal(await host.page('names weather'), 'ok')

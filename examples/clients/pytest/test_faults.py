@@ -75,6 +75,49 @@ async def test_a_binary_message_comes(async_host):
         assert await client.socket.recv() == b"\x00\xff"
 
 
+@pytest.mark.parametrize("frame", ["c100", "818000000000", "8000", "8300", "8101ff"], ids=["reserved bit", "mask", "no beginning", "opcode", "no UTF-8"])
+async def test_a_frame_is_broken(async_host, frame):
+    async with driving(async_host) as client:
+        assert await async_host.page(f"raw 1 {frame}") == "ok"
+        code, _ = await client.closed()
+        assert code != 1000
+
+
+async def test_a_message_comes_in_parts_with_a_ping_between(async_host):
+    async with driving(async_host) as client:
+        assert await async_host.page("raw 1 01017b") == "ok"
+        assert await async_host.page("raw 1 890080017d") == "ok"
+        assert await client.socket.recv() == "{}"
+
+
+async def test_the_server_does_not_read(async_host):
+    async with driving(async_host) as client:
+        assert await async_host.page("stall 1") == "ok"
+        ready = asyncio.ensure_future(client.ask("session.status"))
+        with pytest.raises(asyncio.TimeoutError):
+            await asyncio.wait_for(asyncio.shield(ready), timeout=0.2)
+        assert await async_host.page("resume 1") == "ok"
+        assert (await ready)["ready"]
+
+
+async def test_a_handshake_is_refused(async_host):
+    assert await async_host.page("refuse 1 503") == "ok"
+    with pytest.raises(websockets.exceptions.InvalidStatusCode, match="503"):
+        async with connected(async_host):
+            pass
+    async with connected(async_host) as client:
+        assert (await client.ask("session.status"))["ready"]
+
+
+async def test_a_message_is_cut_off(async_host):
+    async with driving(async_host) as client:
+        assert await async_host.page("cut 1 10") == "ok"
+        await client.socket.send('{"id":1,"method":"session.status","params":{}}')
+        assert (await client.closed())[0] == 1006
+    async with connected(async_host) as again:
+        assert (await again.ask("session.status"))["ready"]
+
+
 async def test_an_unknown_event_comes(async_host):
     async with driving(async_host) as client:
         assert await async_host.page("names weather") == "ok"
@@ -137,6 +180,7 @@ async def test_an_event_goes_to_its_subscribers_alone(async_host):
 @pytest.mark.parametrize("line", [
     'answer {"result":{}}', 'answer {"method":"a","result":{},"error":"e"}', 'answer {"method":"a","result":{},"nope":1}', "hold []",
     'answer {"method":"a","result":{},"times":0}', "release 1", "emit {}", "names", "bytes 1 0", "send 9 x", "cut 9", "close 1 1005",
+    "raw 1 0", "raw 9 00", "stall 9", "resume 9", "refuse 1 200", "cut 9 5",
 ])
 async def test_a_line_has_no_effect(async_host, line):
     async with driving(async_host):

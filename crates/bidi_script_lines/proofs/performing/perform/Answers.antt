@@ -1,5 +1,5 @@
 use Rattle.std.proofs.Common.{◌∙◌, sym, ap}
-use Rattle.bidi_script_lines.specs.ScriptLines.{Answer, Hold, ReleaseWith, Unanswer, Emit, On, Names}
+use Rattle.bidi_script_lines.specs.ScriptLines.{Answer, Hold, ReleaseWith, Unanswer, Emit, On, Names, Refuse}
 use Rattle.bidi_script_lines.specs.View.{said_by}
 use Rattle.bidi_script_lines.proofs.PerformLemmas.{brings-as}
 use Rattle.bidi_script_lines.proofs.performing.perform.Goals as goal
@@ -31,3 +31,7 @@ returns-in-On-clause-brings c = λ h s.
 pub returns-in-Names-clause-brings : goal.returns-in-Names-clause-brings
 returns-in-Names-clause-brings c = λ h s.
     brings-as (Names c.as_str-in-Names.result.now) _ h c.args.end.now c.know.new.end c.know.result (ap Names c.as_str-in-Names.ensures.value ∙ sym (ap said_by c.in-Names.is)) (c.know.ensures.brings h)
+
+pub returns-in-Refuse-clause-brings : goal.returns-in-Refuse-clause-brings
+returns-in-Refuse-clause-brings c = λ h s.
+    brings-as (Refuse c.in-Refuse.number.value c.in-Refuse.code.value) _ h c.args.end.now c.args.end.now c.refuse.result (sym (ap said_by c.in-Refuse.is)) (c.refuse.ensures.brings h c.args.end.now)
