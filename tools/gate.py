@@ -33,6 +33,7 @@ PROGRAM = [
     ("refused allocations", "tools/refusals.py --short"),
     ("examples", f"tools/examples.py {BIDI}"),
     ("documents", f"tools/blocks.py {BIDI}"),
+    ("command lines", f"tools/command_lines.py {BIDI}"),
     ("scripted plays", f"tools/scripted_plays.py {BIDI}"),
     ("host checks", f"tools/host_checks.py {BIDI}"),
 ]

@@ -1,6 +1,8 @@
-//! What lies round a host: the system's clock, files and standard streams.
-use bidi_host_loop::{Surroundings, page_lines};
+//! What lies round a host: the system's clock, the record and the standard streams.
+use crate::files::FileFault;
+use bidi_host_loop::Surroundings;
 use bidi_recorder::HostingFault;
+use std::alloc::{AllocError, Global};
 use std::fs::{self, File};
 use std::io;
 use std::io::{Read, Write};
@@ -43,6 +45,8 @@ struct Record {
     file: File,
     // How many bytes of whole lines the file has.
     length: u64,
+    // Why the system refused to make or to write the file, if it did.
+    refused: Option<io::ErrorKind>,
 }
 
 /// The system, and the record where one is kept.
@@ -56,33 +60,66 @@ impl<'a> System<'a> {
     /// The system, with a record in this file. A file that is there is emptied.
     ///
     /// # Errors
-    /// `Write`: the file cannot be made.
-    pub(crate) fn new(
-        rt: &'a HostRuntime,
-        path: Option<String>,
-    ) -> Result<System<'a>, HostingFault> {
+    /// The system refuses the file.
+    pub(crate) fn new(rt: &'a HostRuntime, path: Option<String>) -> Result<System<'a>, FileFault> {
         let record = match path {
             None => None,
             Some(path) => Some(begun(rt, path)?),
         };
         Ok(System { rt, record })
     }
+
+    /// The file of the record that the system refused to make or to write, if it did.
+    ///
+    /// # Errors
+    /// No memory: an allocation failed.
+    pub(crate) fn refused(&self) -> Result<Option<FileFault>, AllocError> {
+        match &self.record {
+            None => Ok(None),
+            Some(record) => record.refused(self.rt.alloc()),
+        }
+    }
 }
 
 // A record in a new file.
-fn begun(rt: &HostRuntime, path: String) -> Result<Record, HostingFault> {
+fn begun(rt: &HostRuntime, path: String) -> Result<Record, FileFault> {
     match fs::create(rt, path.as_str()) {
         Ok(file) => Ok(Record {
             path,
             number: 1,
             file,
             length: 0,
+            refused: None,
         }),
-        Err(_) => Err(HostingFault::Write),
+        Err(error) => Err(FileFault {
+            doing: "write",
+            name: path,
+            kind: error.kind(),
+        }),
     }
 }
 
 impl Record {
+    // The file of this number, if the system refused to make or to write it.
+    fn refused(&self, alloc: Global) -> Result<Option<FileFault>, AllocError> {
+        let Some(kind) = self.refused else {
+            return Ok(None);
+        };
+        Ok(Some(FileFault {
+            doing: "write",
+            name: self.name(alloc)?,
+            kind,
+        }))
+    }
+
+    // The name of the file of this number: `FILE`, `FILE.2`, `FILE.3` and so on.
+    fn name(&self, alloc: Global) -> Result<String, AllocError> {
+        if self.number == 1 {
+            return String::from_str(alloc, self.path.as_str());
+        }
+        format!(in alloc; "{}.{}", self.path, self.number)
+    }
+
     // Appends a line that has its line feed. Of a line that cannot be written whole nothing stays.
     fn append(&mut self, line: &str) -> Result<(), HostingFault> {
         match self.file.write_all(line.as_bytes()) {
@@ -90,24 +127,28 @@ impl Record {
                 self.length = self.length.saturating_add(line.len() as u64);
                 Ok(())
             }
-            Err(_) => {
+            Err(error) => {
                 let _ = self.file.set_len(self.length);
+                self.refused = Some(error.kind());
                 Err(HostingFault::Write)
             }
         }
     }
 
-    // Goes on in the next file: `FILE.2`, `FILE.3` and so on.
+    // Goes on in the next file.
     fn go_on(&mut self, rt: &HostRuntime) -> Result<(), HostingFault> {
         self.number = self.number.saturating_add(1);
-        let path = format!(in rt.alloc(); "{}.{}", self.path, self.number)?;
+        let path = self.name(rt.alloc())?;
         match fs::create(rt, path.as_str()) {
             Ok(file) => {
                 self.file = file;
                 self.length = 0;
                 Ok(())
             }
-            Err(_) => Err(HostingFault::Write),
+            Err(error) => {
+                self.refused = Some(error.kind());
+                Err(HostingFault::Write)
+            }
         }
     }
 }
@@ -148,22 +189,5 @@ impl<'a> Surroundings for System<'a> {
 
     fn note(&mut self, line: &str) {
         let _ = eprintln!(self.rt; "{line}");
-    }
-}
-
-/// The lines of the file of a page; none where there is no file.
-///
-/// # Errors
-/// - `Read`: the file cannot be read.
-/// - `BadLine`: a line is not UTF-8, or lacks its line feed.
-/// - `NoMemory`: an allocation failed.
-pub(crate) fn page_of(rt: &HostRuntime, path: Option<String>) -> Result<Vec<String>, HostingFault> {
-    match path {
-        None => Ok(Vec::new(rt.alloc())),
-        Some(path) => match fs::read(rt, path.as_str()) {
-            Ok(bytes) => page_lines(rt.alloc(), &bytes),
-            Err(error) if error.kind() == io::ErrorKind::OutOfMemory => Err(HostingFault::NoMemory),
-            Err(_) => Err(HostingFault::Read),
-        },
     }
 }

@@ -14,7 +14,7 @@ use Rattle.bidi_command_line.specs.declared.fault.LineFault.TheVariants.{Help, U
 use Rattle.bidi_command_line.specs.declared.run.Run.{Run}
 use Rattle.bidi_command_line.specs.declared.run.Run.TheVariants.{Stream, Serve, Host}
 use Rattle.bidi_command_line.specs.declared.run.StreamRun.{StreamRun}
-use Rattle.bidi_command_line.specs.declared.run.StreamRun.TheVariants.{Play, ScriptedPlay, Pair, Reduce, Show, Check, Why, Both}
+use Rattle.bidi_command_line.specs.declared.run.StreamRun.TheVariants.{Play, ScriptedPlay, Pair, Reduce, ScriptedReduce, Show, Check, Why, Both}
 use Rattle.bidi_command_line.specs.declared.run.ServeOptions.{ServeOptions}
 use Rattle.bidi_command_line.specs.declared.run.HostOptions.{HostOptions}
 use Rattle.bidi_lines.specs.declared.side.Side.{Side}
@@ -63,6 +63,7 @@ asked_read line (Stream ScriptedPlay) (inr e) = subst (λ l. IsReadAs l (Stream 
 asked_read line (Stream Pair) (inl e) = subst (λ l. IsReadAs l (Stream Pair)) (sym e) reads_pair
 asked_read line (Stream Pair) (inr e) = subst (λ l. IsReadAs l (Stream Pair)) (sym e) reads_pair_mark
 asked_read line (Stream (Reduce session)) asks = asks
+asked_read line (Stream (ScriptedReduce session)) asks = asks
 asked_read line (Stream (Show side)) asks = asks
 asked_read line (Stream (Check side)) asks = asks
 asked_read line (Stream (Why o)) asks = asks
@@ -76,6 +77,7 @@ read_asked line (Stream Play) read = play_lines line read.0 read.1
 read_asked line (Stream ScriptedPlay) read = scripted_lines line read.0 read.1
 read_asked line (Stream Pair) read = pair_lines line read.0 read.1
 read_asked line (Stream (Reduce session)) read = read
+read_asked line (Stream (ScriptedReduce session)) read = read
 read_asked line (Stream (Show side)) read = read
 read_asked line (Stream (Check side)) read = read
 read_asked line (Stream (Why o)) read = read

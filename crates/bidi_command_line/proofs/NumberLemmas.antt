@@ -11,7 +11,7 @@ use Rattle.clap.specs.Words.{Row, Text, first_of}
 use Rattle.bidi_command_line.specs.declared.run.Run.{Run}
 use Rattle.bidi_command_line.specs.declared.run.Run.TheVariants.{Stream, Serve, Host}
 use Rattle.bidi_command_line.specs.declared.run.StreamRun.{StreamRun}
-use Rattle.bidi_command_line.specs.declared.run.StreamRun.TheVariants.{Play, ScriptedPlay, Pair, Reduce, Show, Check, Why, Both}
+use Rattle.bidi_command_line.specs.declared.run.StreamRun.TheVariants.{Play, ScriptedPlay, Pair, Reduce, ScriptedReduce, Show, Check, Why, Both}
 use Rattle.bidi_command_line.specs.declared.run.ServeOptions.{ServeOptions}
 use Rattle.bidi_command_line.specs.declared.run.HostOptions.{HostOptions}
 use Rattle.bidi_command_line.specs.CommandLine.{IsWithinBounds, all_digits, checked, checking_in, hosted, hosting_in, is_given, is_numeral, number_in}
@@ -151,8 +151,10 @@ checked_within (Some end) false false true profile = none_within
 checked_within (Some end) false false false true = none_within
 checked_within (Some end) false false false false = streamed_within Check (side_named end) (λ side. tt)
 
-reduced_within : (rows : List Row) → AreWithin (option_map (λ n. Stream (Reduce n)) (session_in rows))
-reduced_within rows = made_within (λ n. Stream (Reduce n)) (session_in rows) (λ n e. (within_found 0 4294967295 n (first_of (codes "session") rows) e).1)
+reduced_within : (is_scripted : Bool) (rows : List Row) → AreWithin (option_map (λ n. Stream (if is_scripted then ScriptedReduce n else Reduce n)) (session_in rows))
+reduced_within true rows =
+    made_within (λ n. Stream (ScriptedReduce n)) (session_in rows) (λ n e. (within_found 0 4294967295 n (first_of (codes "session") rows) e).1)
+reduced_within false rows = made_within (λ n. Stream (Reduce n)) (session_in rows) (λ n e. (within_found 0 4294967295 n (first_of (codes "session") rows) e).1)
 
 served_within : (rows : List Row) → AreWithin (option_map Serve (serving_in rows))
 served_within rows = made_within Serve (serving_in rows) (λ s e.
@@ -174,7 +176,7 @@ hosted_within rows = made_within Host (hosting_in rows) (λ o e.
 -- the run by the names that a subcommand has
 abbrev run_by : Bool → Bool → Bool → Bool → Bool → Bool → Bool → List Row → Option Run
 run_by is_play is_pair is_reduce is_show is_check is_serve is_host rows =
-    if is_play then Some (Stream (if is_given (codes "scripted") rows then ScriptedPlay else Play)) else (if is_pair then Some (Stream Pair) else (if is_reduce then option_map (λ n. Stream (Reduce n)) (session_in rows)
+    if is_play then Some (Stream (if is_given (codes "scripted") rows then ScriptedPlay else Play)) else (if is_pair then Some (Stream Pair) else (if is_reduce then option_map (λ n. Stream (if is_given (codes "scripted") rows then ScriptedReduce n else Reduce n)) (session_in rows)
     else (if is_show then option_map (λ s. Stream (Show s)) (side_in rows) else (if is_check then option_map Stream (checking_in rows)
     else (if is_serve then option_map Serve (serving_in rows) else (if is_host then option_map Host (hosting_in rows) else None))))))
 
@@ -185,7 +187,7 @@ played_within false = one_within (Stream Play) tt
 named_within : (p q d r t u h : Bool) (rows : List Row) → AreWithin (run_by p q d r t u h rows)
 named_within true q d r t u h rows = played_within (is_given (codes "scripted") rows)
 named_within false true d r t u h rows = one_within (Stream Pair) tt
-named_within false false true r t u h rows = reduced_within rows
+named_within false false true r t u h rows = reduced_within (is_given (codes "scripted") rows) rows
 named_within false false false true t u h rows = made_within (λ s. Stream (Show s)) (side_in rows) (λ side e. tt)
 named_within false false false false true u h rows =
     checked_within (first_of (codes "from") rows) (is_given (codes "both") rows) (is_given (codes "why") rows) (is_given (codes "json") rows)

@@ -18,7 +18,7 @@ use Rattle.clap.proofs.OnLiterals.{clap_on_literals}
 use Rattle.bidi_command_line.specs.declared.run.Run.{Run}
 use Rattle.bidi_command_line.specs.declared.run.Run.TheVariants.{Stream, Serve, Host}
 use Rattle.bidi_command_line.specs.declared.run.StreamRun.{StreamRun}
-use Rattle.bidi_command_line.specs.declared.run.StreamRun.TheVariants.{Play, ScriptedPlay, Pair, Reduce, Show, Check, Why, Both}
+use Rattle.bidi_command_line.specs.declared.run.StreamRun.TheVariants.{Play, ScriptedPlay, Pair, Reduce, ScriptedReduce, Show, Check, Why, Both}
 use Rattle.bidi_command_line.specs.declared.run.WhyOptions.{WhyOptions}
 use Rattle.bidi_command_line.specs.declared.run.BothOptions.{BothOptions}
 use Rattle.bidi_command_line.specs.declared.run.ServeOptions.{ServeOptions}
@@ -233,11 +233,22 @@ no_stream : {A : Type 0} (f : A → StreamRun) (run : Run) → ((x : A) → Stre
 no_stream f run differs None e = cc
 no_stream f run differs (Some x) e = differs x (same_some e)
 
-entered_reduce : (run : Run) → ((n : ℕ) → Stream (Reduce n) ≡ run → ⊥) → (line : List Text) → run_in (entered app (Some (reduce, line))) ≡ Some run → ⊥
-unfolding clap_on_literals
-entered_reduce run differs line e = no_other (λ n. Stream (Reduce n)) run differs _ e
+-- the run is not one of `reduce`
+abbrev IsNoReduce : Run → Type 0
+IsNoReduce run = (is_scripted : Bool) (n : ℕ) → Stream (if is_scripted then ScriptedReduce n else Reduce n) ≡ run → ⊥
 
-read_reduce : (run : Run) → ((n : ℕ) → Stream (Reduce n) ≡ run → ⊥) → (line : List Text) → run_in (subcommand_of bidi_app (reduce ∷ line)) ≡ Some run → ⊥
+no_reduce_met : (run : Run) → IsNoReduce run → (met : Option (Text × List Row)) → option_map (λ m. m.0) met ≡ Some reduce → run_in met ≡ Some run → ⊥
+unfolding clap_on_literals
+no_reduce_met run differs None named e = cc
+no_reduce_met run differs (Some (name, rows)) named e =
+    no_other (λ n. Stream (if is_given (codes "scripted") rows then ScriptedReduce n else Reduce n)) run (differs (is_given (codes "scripted") rows)) _
+    (subst (λ n. run_in (Some (n, rows)) ≡ Some run) (same_some named) e)
+
+entered_reduce : (run : Run) → IsNoReduce run → (line : List Text) → run_in (entered app (Some (reduce, line))) ≡ Some run → ⊥
+unfolding clap_on_literals
+entered_reduce run differs line e = no_reduce_met run differs (entered app (Some (reduce, line))) refl e
+
+read_reduce : (run : Run) → IsNoReduce run → (line : List Text) → run_in (subcommand_of bidi_app (reduce ∷ line)) ≡ Some run → ⊥
 read_reduce run differs line e = entered_reduce run differs line (subst (λ s. run_in (entered app s) ≡ Some run) (stop_reduce line) e)
 
 entered_show : (run : Run) → ((side : Side) → Stream (Show side) ≡ run → ⊥) → (line : List Text) → run_in (entered app (Some (show, line))) ≡ Some run → ⊥
@@ -297,33 +308,45 @@ read_host run differs line e = entered_host run differs line (subst (λ s. run_i
 
 -- the run is one of no subcommand but `play` and `pair`
 record IsPlain (run : Run) : Type 0 where
-  reduce : (n : ℕ) → Stream (Reduce n) ≡ run → ⊥
+  reduce : IsNoReduce run
   show : (side : Side) → Stream (Show side) ≡ run → ⊥
   check : IsNoCheck run
   serve : (s : ServeOptions) → Serve s ≡ run → ⊥
   host : (h : HostOptions) → Host h ≡ run → ⊥
 
+play_is_no_reduce : IsNoReduce (Stream Play)
+play_is_no_reduce true n e = cc
+play_is_no_reduce false n e = cc
+
 play_is_plain : IsPlain (Stream Play)
 play_is_plain = record {
-  reduce = λ n e. cc;
+  reduce = play_is_no_reduce;
   show = λ side e. cc;
   check = (λ side e. cc, λ o e. cc, λ o e. cc);
   serve = λ s e. cc;
   host = λ h e. cc;
 }
+
+scripted_is_no_reduce : IsNoReduce (Stream ScriptedPlay)
+scripted_is_no_reduce true n e = cc
+scripted_is_no_reduce false n e = cc
 
 scripted_is_plain : IsPlain (Stream ScriptedPlay)
 scripted_is_plain = record {
-  reduce = λ n e. cc;
+  reduce = scripted_is_no_reduce;
   show = λ side e. cc;
   check = (λ side e. cc, λ o e. cc, λ o e. cc);
   serve = λ s e. cc;
   host = λ h e. cc;
 }
 
+pair_is_no_reduce : IsNoReduce (Stream Pair)
+pair_is_no_reduce true n e = cc
+pair_is_no_reduce false n e = cc
+
 pair_is_plain : IsPlain (Stream Pair)
 pair_is_plain = record {
-  reduce = λ n e. cc;
+  reduce = pair_is_no_reduce;
   show = λ side e. cc;
   check = (λ side e. cc, λ o e. cc, λ o e. cc);
   serve = λ s e. cc;

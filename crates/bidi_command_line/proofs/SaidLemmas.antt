@@ -8,7 +8,7 @@ use Rattle.clap.specs.Words.{Text, subcommand_of}
 use Rattle.clap.proofs.OnLiterals.{clap_on_literals}
 use Rattle.bidi_command_line.specs.declared.run.Run.{Run}
 use Rattle.bidi_command_line.specs.declared.run.Run.TheVariants.{Stream, Serve, Host}
-use Rattle.bidi_command_line.specs.declared.run.StreamRun.TheVariants.{Play, ScriptedPlay, Pair, Reduce, Show, Check, Why, Both}
+use Rattle.bidi_command_line.specs.declared.run.StreamRun.TheVariants.{Play, ScriptedPlay, Pair, Reduce, ScriptedReduce, Show, Check, Why, Both}
 use Rattle.bidi_lines.specs.declared.side.Side.{Side}
 use Rattle.bidi_lines.specs.declared.side.Side.TheVariants.{Local, Remote}
 use Rattle.bidi_command_line.proofs.FileLemmas.{MayName, with_file}
@@ -90,6 +90,14 @@ reduce_reads (apart b value e) =
     let l = no_long b value e in let s = no_short b value e in let q = no_mark b value e in
     (rw (q, l, s) refl, rw (q, l, s) refl)
 reduce_reads (joined value) = (refl, refl)
+
+reduce_flagged : {value : Text} {words : List Text} → Given (codes "session") value words
+    → Reads (codes "reduce" ∷ words ++ codes "--scripted" ∷ []) (option_map (λ n. Stream (ScriptedReduce n)) (number_within 0 4294967295 value))
+unfolding clap_on_literals
+reduce_flagged (apart b value e) =
+    let l = no_long b value e in let s = no_short b value e in let q = no_mark b value e in
+    (rw (q, l, s) refl, rw (q, l, s) refl)
+reduce_flagged (joined value) = (refl, refl)
 
 -- the name of a file is not that of an option, and is not `--`
 is_file_word : (name : Text) → IsTrue (is_name name) → (bytes_eq name (codes "--") ≡ false) × (long_of name ≡ None) × (short_of name ≡ None)
@@ -339,6 +347,9 @@ said_asks line (Stream Pair) e = inl e
 said_asks line (Stream (Reduce session)) (words, gives, e) =
     read_as line (codes "reduce" ∷ words) (Stream (Reduce session)) _ e (ap (option_map (λ n. Stream (Reduce n))) gives.1)
     (reduce_reads (given_number (codes "session") 0 4294967295 session words gives))
+said_asks line (Stream (ScriptedReduce session)) (words, gives, e) =
+    read_as line (codes "reduce" ∷ words ++ codes "--scripted" ∷ []) (Stream (ScriptedReduce session)) _ e (ap (option_map (λ n. Stream (ScriptedReduce n))) gives.1)
+    (reduce_flagged (given_number (codes "session") 0 4294967295 session words gives))
 said_asks line (Stream (Show side)) (words, file, gives, names, e) =
     read_as line (codes "show" ∷ words ++ file) (Stream (Show side)) _ e (ap (option_map (λ s. Stream (Show s))) (side_is side))
     (show_reads (given_side side words gives) (file_is file names))

@@ -15,7 +15,7 @@ use Rattle.bidi_command_line.specs.declared.fault.LineFault.TheVariants.{Help, U
 use Rattle.bidi_command_line.specs.declared.run.Run.{Run}
 use Rattle.bidi_command_line.specs.declared.run.Run.TheVariants.{Stream, Serve, Host}
 use Rattle.bidi_command_line.specs.declared.run.StreamRun.{StreamRun}
-use Rattle.bidi_command_line.specs.declared.run.StreamRun.TheVariants.{Play, ScriptedPlay, Pair, Reduce, Show, Check, Why, Both}
+use Rattle.bidi_command_line.specs.declared.run.StreamRun.TheVariants.{Play, ScriptedPlay, Pair, Reduce, ScriptedReduce, Show, Check, Why, Both}
 use Rattle.bidi_command_line.specs.declared.run.ServeOptions.{ServeOptions}
 use Rattle.bidi_command_line.specs.declared.run.HostOptions.{HostOptions}
 use Rattle.bidi_command_line.specs.declared.files.HostFiles.{HostFiles}
@@ -46,9 +46,9 @@ value_rule name = record (new_rule name) { long = Some name; value_names = 1 }
 abbrev pub option_rule : Text → Rule
 option_rule name = record (value_rule name) { required = true }
 
--- the subcommand `reduce`, with its option `--session`
+-- the subcommand `reduce`, with its option `--session` and its flag
 abbrev pub reduce_shape : Shape
-reduce_shape = (with_rule (new_app (codes "reduce")) (option_rule (codes "session"))).top
+reduce_shape = (with_rule (with_rule (new_app (codes "reduce")) (option_rule (codes "session"))) (flag_rule (codes "scripted"))).top
 
 -- the input file of a subcommand: an argument without a name, which may be left out
 abbrev pub file_rule : Rule
@@ -225,7 +225,7 @@ abbrev pub run_named : Text → Bool → Option Side → Option ℕ → Option S
 run_named name is_scripted side session checking serving hosting =
     if bytes_eq name (codes "play") then Some (Stream (if is_scripted then ScriptedPlay else Play))
     else (if bytes_eq name (codes "pair") then Some (Stream Pair)
-    else (if bytes_eq name (codes "reduce") then option_map (λ n. Stream (Reduce n)) session
+    else (if bytes_eq name (codes "reduce") then option_map (λ n. Stream (if is_scripted then ScriptedReduce n else Reduce n)) session
     else (if bytes_eq name (codes "show") then option_map (λ s. Stream (Show s)) side
     else (if bytes_eq name (codes "check") then option_map Stream checking
     else (if bytes_eq name (codes "serve") then option_map Serve serving
@@ -265,6 +265,7 @@ AsksFor line (Stream ScriptedPlay) =
     (line ≡ codes "play" ∷ codes "--scripted" ∷ []) ⊎ (line ≡ codes "play" ∷ codes "--scripted" ∷ codes "--" ∷ [])
 AsksFor line (Stream Pair) = (line ≡ codes "pair" ∷ []) ⊎ (line ≡ codes "pair" ∷ codes "--" ∷ [])
 AsksFor line (Stream (Reduce session)) = IsReadAs line (Stream (Reduce session))
+AsksFor line (Stream (ScriptedReduce session)) = IsReadAs line (Stream (ScriptedReduce session))
 AsksFor line (Stream (Show side)) = IsReadAs line (Stream (Show side))
 AsksFor line (Stream (Check side)) = IsReadAs line (Stream (Check side))
 AsksFor line (Stream (Why options)) = IsReadAs line (Stream (Why options))
@@ -326,6 +327,8 @@ IsSaidBy (Stream Play) line = line ≡ codes "play" ∷ []
 IsSaidBy (Stream ScriptedPlay) line = line ≡ codes "play" ∷ codes "--scripted" ∷ []
 IsSaidBy (Stream Pair) line = line ≡ codes "pair" ∷ []
 IsSaidBy (Stream (Reduce session)) line = (words : List Text) × GivesNumber (codes "session") 0 greatest_session session words × (line ≡ codes "reduce" ∷ words)
+IsSaidBy (Stream (ScriptedReduce session)) line =
+    (words : List Text) × GivesNumber (codes "session") 0 greatest_session session words × (line ≡ codes "reduce" ∷ words ++ codes "--scripted" ∷ [])
 IsSaidBy (Stream (Show side)) line =
     (words : List Text) × (file : List Text) × Gives (codes "from") (side_text side) words × FileWords file × (line ≡ codes "show" ∷ words ++ file)
 IsSaidBy (Stream (Check side)) line =
@@ -349,6 +352,7 @@ IsSaidBy (Host h) line = SaysHost h line ⊎ SaysBuffered h line
 -- the numbers of the run are within their bounds
 abbrev pub IsWithinBounds : Run → Type 0
 IsWithinBounds (Stream (Reduce session)) = session ≤ greatest_session
+IsWithinBounds (Stream (ScriptedReduce session)) = session ≤ greatest_session
 IsWithinBounds (Serve s) = (s.port ≤ greatest_port) × (1 ≤ s.connections) × (s.connections ≤ most_served) × (1 ≤ s.messages) × (s.messages ≤ most_messages)
 IsWithinBounds (Host h) = (h.port ≤ greatest_port) × (1 ≤ h.most_buffered) × (h.most_buffered ≤ most_buffered_mib)
 IsWithinBounds run = ⊤

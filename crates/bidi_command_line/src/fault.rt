@@ -4,7 +4,7 @@ ghost use Rattle.clap.specs.Words.{kind_of};
 ghost use Rattle.clap.specs.declared.error.kind.ErrorKind.TheVariants.{InvalidValue};
 ghost use Rattle.bidi_command_line.specs.CommandLine.{Causes};
 
-use crate::grammar::command;
+use crate::grammar::subcommand;
 use crate::values::{is_given, number_of, port_of, side_named};
 use clap::ArgMatches;
 use clap::error::ErrorKind;
@@ -29,35 +29,35 @@ pub enum LineFault {
 pub(crate) fn no_value(alloc: Global, matches: &ArgMatches<'_>) -> LineFault
     ensures { Causes InvalidValue result }
 {
-    match bad_value(alloc, matches) {
-        Ok(message) => value_fault(alloc, &message),
+    let Some((name, inner)) = matches.subcommand() else {
+        return value_fault(alloc, "", "no subcommand");
+    };
+    match bad_value(alloc, name, inner) {
+        Ok(message) => value_fault(alloc, name, &message),
         Err(_) => LineFault::NoMemory,
     }
 }
 
-// The fault of options that this message describes.
-fn value_fault(alloc: Global, message: &str) -> LineFault
+// The fault of options of a subcommand that this message describes.
+fn value_fault(alloc: Global, name: &str, message: &str) -> LineFault
     ensures { Causes InvalidValue result }
 {
-    match value_error(alloc, message) {
+    match value_error(alloc, name, message) {
         Ok(error) => fault(alloc, &error),
         Err(_) => LineFault::NoMemory,
     }
 }
 
-// The error of `clap` with this message.
-fn value_error(alloc: Global, message: &str) -> Result<clap::Error, AllocError>
+// The error of `clap` with this message, which ends with the usage of the subcommand of this name.
+fn value_error(alloc: Global, name: &str, message: &str) -> Result<clap::Error, AllocError>
     ensures { IfOk result (λ error. kind_of error ≡ InvalidValue) }
 {
-    let mut command = command(alloc)?;
+    let mut command = subcommand(alloc, name)?;
     command.error(ErrorKind::InvalidValue, message)
 }
 
-// Which options do not go together; or which option of which subcommand has which value, and what it takes.
-fn bad_value(alloc: Global, matches: &ArgMatches<'_>) -> Result<String, AllocError> {
-    let Some((name, inner)) = matches.subcommand() else {
-        return String::from_str(alloc, "no subcommand");
-    };
+// Which options of a subcommand do not go together; or which option has which value, and what it takes.
+fn bad_value(alloc: Global, name: &str, inner: &ArgMatches<'_>) -> Result<String, AllocError> {
     if let Some(text) = bad_company(name, inner) {
         return String::from_str(alloc, text);
     }

@@ -90,6 +90,18 @@ fn bare_command<'a>(alloc: Global) -> Result<Command<'a>, AllocError>
     )
 }
 
+// The subcommand of this name by itself, as it is after the program's name; the program's command if none has the name.
+pub(crate) fn subcommand<'a>(alloc: Global, name: &str) -> Result<Command<'a>, AllocError> {
+    match name {
+        "reduce" => reduce_command(alloc)?.bin_name("bidi reduce"),
+        "show" => show_command(alloc)?.bin_name("bidi show"),
+        "check" => check_command(alloc)?.bin_name("bidi check"),
+        "serve" => serve_command(alloc)?.bin_name("bidi serve"),
+        "host" => host_command(alloc)?.bin_name("bidi host"),
+        _ => command(alloc),
+    }
+}
+
 // The subcommand `play`, with its flag.
 fn play_command<'a>(alloc: Global) -> Result<Command<'a>, AllocError>
     ensures app { IfOk result (λ command. (app_of command).top ≡ play_shape) }
@@ -109,7 +121,7 @@ fn play_command<'a>(alloc: Global) -> Result<Command<'a>, AllocError>
     )
 }
 
-// The subcommand `reduce`, with its option.
+// The subcommand `reduce`, with its option and its flag.
 fn reduce_command<'a>(alloc: Global) -> Result<Command<'a>, AllocError>
     ensures app { IfOk result (λ command. (app_of command).top ≡ reduce_shape) }
     ensures local { IfOk result (λ command. (out-Command command).has_globals ≡ false) }
@@ -120,12 +132,18 @@ fn reduce_command<'a>(alloc: Global) -> Result<Command<'a>, AllocError>
         "Writes the lines of a play without what other sessions only asked or subscribed",
         REDUCE_HELP,
     );
-    with_required(
+    let command = with_required(
         command,
         alloc,
         "session",
         "NUMBER",
         "The number of the session: 0 to 4294967295",
+    )?;
+    with_flag(
+        command,
+        alloc,
+        "scripted",
+        "Takes lines of a test too, and keeps all from the first of them on",
     )
 }
 
@@ -137,7 +155,7 @@ fn show_command<'a>(alloc: Global) -> Result<Command<'a>, AllocError>
     let command = named(
         alloc,
         "show",
-        "Writes a line for each text of the standard input",
+        "Writes a line for each message of FILE or the standard input",
         SHOW_HELP,
     );
     let command = with_required(command, alloc, "from", "END", FROM_HELP)?;
@@ -179,7 +197,7 @@ fn check_with_ends<'a>(alloc: Global) -> Result<Command<'a>, AllocError>
     let command = named(
         alloc,
         "check",
-        "Writes a line for each text of the standard input that is refused",
+        "Writes a line for each message of FILE or the standard input that is refused",
         CHECK_HELP,
     );
     let command = with_option(command, alloc, "from", "END", FROM_HELP)?;

@@ -24,18 +24,19 @@ Lines in: a play.
 Lines out: the same play without those messages of other sessions that are refused, or whose command is
 session.status, session.subscribe, session.unsubscribe, browsingContext.activate, browsingContext.getTree
 or script.getRealms. Both plays send the session the same messages.
+With --scripted the lines may be those of `bidi play --scripted`: all from the first line of a test on stay.
 Status: 0 if everything was read and written, 2 at a bad line, 3 if input, output or memory failed.
 docs/FORMATS.md has all forms.";
 
 pub(crate) const SHOW_HELP: &str = "\
-Lines in: one message a line, as it was sent.
+Lines in, from FILE or standard input: one message a line, as it was sent.
 Lines out, of a local end: `accepted ID METHOD TEXT` or `refused ID CODE`;
 of a remote end: `response ID TEXT`, `error ID TEXT`, `event METHOD TEXT`, `no fit` or `not json`.
 Status: 0 if everything was shown, 2 at a bad line, 3 if input, output or memory failed.
 docs/FORMATS.md has all forms.";
 
 pub(crate) const CHECK_HELP: &str = "\
-Lines in: one message a line, as it was sent.
+Lines in, from FILE or standard input: one message a line, as it was sent.
 Lines out, of a local end: `line N: refused ID CODE`; of a remote end: `line N: no fit` or `line N: not json`.
 With --both the lines are a conversation: `> MESSAGE` is of the local end, `< MESSAGE` of the remote end. Replies are
 checked against their commands: `line N: stray ID`, `line N: bad result ID METHOD` or `line N: error ID METHOD CODE`,
@@ -60,8 +61,13 @@ docs/TESTING.md has more.";
 pub(crate) const HOST_HELP: &str = "\
 A client connects to ws://127.0.0.1:PORT/session, and makes a session with `session.new`;
 a connection to /session/ID speaks for that session.
-A connection to /page is a page: each of its messages is a line of a play (`at`, `frame`, `unframe`, `log`, `value`),
-or `reset`, which makes the browser new, or `end`.
+A connection to /page is a page, and each of its messages is a line:
+  `at N`, `frame CONTEXT URL`, `unframe CONTEXT`, `log CONTEXT LEVEL TEXT`, `value ROW` as in a play;
+  `answer ROW`, `hold ROW`, `release N`, `release N ROW`, `unanswer METHOD` decide what answers a command;
+  `emit EVENT`, `on METHOD [EVENT..]`, `names NAME..` send events and make their names known;
+  `send C TEXT`, `bytes C HEX`, `raw C HEX`, `cut C`, `cut C AFTER`, `close C CODE` act on connection C;
+  `stall C`, `resume C`, `refuse N CODE` stop reading, read again, and refuse handshakes;
+  `reset` makes the browser new, and `end` ends the program.
 Each line of a page is answered by `ok`, `no effect: REASON` or `no line of a page: REASON`.
 When it listens, it writes `WebDriver BiDi listening on ws://127.0.0.1:PORT` to standard error.
 Status: 0 if it was told to end or --once ended it, 2 at a bad line in the file of a page,

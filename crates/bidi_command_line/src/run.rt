@@ -24,6 +24,8 @@ pub enum StreamRun {
     Pair,
     /// `reduce`: writes those lines of standard input that are kept for the session of this number.
     Reduce(u32),
+    /// `reduce --scripted`: writes those lines of a scripted play that are kept for the session of this number.
+    ScriptedReduce(u32),
     /// `show`: writes a line for each line of the input, which is read as a message of this end.
     /// [`input_file`](crate::input_file) says which file the input of `show` and `check` is, if it is one.
     Show(Side),

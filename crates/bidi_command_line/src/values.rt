@@ -231,6 +231,7 @@ fn run_named(
         "play" if is_scripted => Some(Run::Stream(StreamRun::ScriptedPlay)),
         "play" => Some(Run::Stream(StreamRun::Play)),
         "pair" => Some(Run::Stream(StreamRun::Pair)),
+        "reduce" if is_scripted => Some(Run::Stream(StreamRun::ScriptedReduce(session?))),
         "reduce" => Some(Run::Stream(StreamRun::Reduce(session?))),
         "show" => Some(Run::Stream(StreamRun::Show(side?))),
         "check" => Some(Run::Stream(checking?)),

@@ -6,4 +6,4 @@ pub mod KeptListLemmas
 pub mod SeenLemmas
 pub mod AlikeLemmas
 pub mod StrikeLemmas
-mod ReduceLemmas
+pub mod ReduceLemmas

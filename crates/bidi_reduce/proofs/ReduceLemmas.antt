@@ -30,7 +30,7 @@ use Rattle.bidi_sessions.specs.Limits.{most_steps}
 -- ---- one line more
 
 -- the lines of what is kept, of one step more
-kept_more : (s : ℕ) (steps : List Step) (inputs : List Input) (x : Step) (i : Input) (b : Bool) (kept line : List ℕ)
+pub kept_more : (s : ℕ) (steps : List Step) (inputs : List Input) (x : Step) (i : Input) (b : Bool) (kept line : List ℕ)
     → AreHeardAs steps inputs → b ≡ is_kept s inputs i → line ≡ line_of x → kept ≡ said (strike_steps steps inputs s)
     → (if b then kept ++ ended line else kept) ≡ said (strike_steps (steps ++ x ∷ []) (inputs ++ i ∷ []) s)
 kept_more s steps inputs x i b kept line heard is says same =

@@ -1,1 +1,2 @@
+pub mod ScriptReduceLemmas
 pub mod TellingLemmas

@@ -19,6 +19,7 @@ use Rattle.bidi_play.specs.Plays.{PlaysAll, lines_fault, play_run}
 use Rattle.bidi_play.specs.declared.playing.PlayFault.TheVariants as play
 use Rattle.bidi_script_lines.specs.ScriptedPlays.{ScriptedPlaysAll, script_run}
 use Rattle.bidi_reduce.specs.Reduces.{ReducesAll, reduce_run}
+use Rattle.bidi_run.specs.ScriptReduces.{ReducesScript, reduce_script_run}
 use Rattle.bidi_pair_lines.specs.Pairs.{PairsAll, pair_run}
 use Rattle.bidi_serve.specs.declared.listening.ServeFault.TheVariants as serve
 use Rattle.bidi_recorder.specs.declared.fault.HostingFault.TheVariants as host
@@ -45,6 +46,7 @@ Completes asked.Play status read wrote = (status ≡ 0) × PlaysAll read wrote
 Completes asked.ScriptedPlay status read wrote = (status ≡ 0) × ScriptedPlaysAll read wrote
 Completes asked.Pair status read wrote = (status ≡ 0) × PairsAll read wrote
 Completes (asked.Reduce session) status read wrote = (status ≡ 0) × ReducesAll session read wrote
+Completes (asked.ScriptedReduce session) status read wrote = (status ≡ 0) × ReducesScript session read wrote
 Completes (asked.Show side) status read wrote = (status ≡ 0) × ListsAll All side read wrote
 Completes (asked.Check side) status read wrote = (status ≡ (if nat_lt 0 (length wrote) then 1 else 0)) × ListsAll RefusedAlone side read wrote
 Completes (asked.Why o) status read wrote = (status ≡ (if nat_lt 0 (length wrote) then 1 else 0)) × TellsAll (form_of o.is_json) o.side o.profile_only read wrote
@@ -58,6 +60,8 @@ Stops asked.Play (Play fault) at_end read wrote = StopsAt play_run (lines_fault 
 Stops asked.ScriptedPlay (Play fault) at_end read wrote = StopsAt script_run (lines_fault fault) at_end read wrote
 Stops asked.Pair (Pair fault) at_end read wrote = StopsWhole pair_run PairsAll fault at_end read wrote
 Stops (asked.Reduce session) (Play fault) at_end read wrote = StopsWhole reduce_run (ReducesAll session) (lines_fault fault) at_end read wrote
+Stops (asked.ScriptedReduce session) (Play fault) at_end read wrote =
+    StopsWhole reduce_script_run (ReducesScript session) (lines_fault fault) at_end read wrote
 Stops (asked.Show side) (Listing fault) at_end read wrote = StopsAt (listing_run All side) fault at_end read wrote
 Stops (asked.Check side) (Listing fault) at_end read wrote = StopsAt (listing_run RefusedAlone side) fault at_end read wrote
 Stops (asked.Why o) (Listing fault) at_end read wrote = StopsAt (report_run (TellsLines (form_of o.is_json) o.side o.profile_only)) fault at_end read wrote

@@ -8,6 +8,7 @@ ghost use Rattle.bidi_run.specs.Runs.{Completes, Stops, Tells, both_form, failed
 
 use super::faults::RunFault;
 use super::pairing::play_pair;
+use super::reducing::reduce_scripted;
 use bidi_command_line::{BothOptions, StreamRun};
 use bidi_lines::{Sink, Source};
 use bidi_play::play;
@@ -91,6 +92,12 @@ fn finish<R: Source, W: Sink, F: Sink>(
             Ok(()) => Ok(0),
             Err(fault) => Err(RunFault::Play(fault)),
         },
+        StreamRun::ScriptedReduce(session) => {
+            match reduce_scripted(alloc, *session, source, sink) {
+                Ok(()) => Ok(0),
+                Err(fault) => Err(RunFault::Play(fault)),
+            }
+        }
         StreamRun::Show(side) => match list(alloc, Listing::All, *side, source, sink) {
             Ok(_) => Ok(0),
             Err(fault) => Err(RunFault::Listing(fault)),

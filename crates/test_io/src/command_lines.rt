@@ -258,6 +258,15 @@ usage: play --lenient
 reduce 1: reduce --session 1
 reduce 0: reduce --session=0
 reduce 4294967295: reduce --session 4294967295 --
+scripted reduce 1: reduce --session 1 --scripted
+scripted reduce 0: reduce --scripted --session=0
+scripted reduce 2: reduce --session=2 --scripted --
+usage: reduce --scripted
+usage: reduce --scripted --session x
+usage: reduce --session 1 --scripted --scripted
+usage: reduce --session 1 --scripted=1
+usage: reduce --session 1 --scripted 2
+usage: pair --session 1 --scripted
 help: reduce --help
 usage: reduce
 usage: reduce 1
@@ -284,8 +293,8 @@ Commands:
   play    Plays steps from the standard input and writes what is sent
   pair    Plays steps of both ends from the standard input and writes what became of each command
   reduce  Writes the lines of a play without what other sessions only asked or subscribed
-  show    Writes a line for each text of the standard input
-  check   Writes a line for each text of the standard input that is refused
+  show    Writes a line for each message of FILE or the standard input
+  check   Writes a line for each message of FILE or the standard input that is refused
   serve   Serves WebSocket connections, one after another
   host    Serves many WebSocket connections at once, and pages among them
 
@@ -332,7 +341,34 @@ const MISTAKES: &str = "`check` takes `--from END` or `--both`: check
 `show --from` takes `local` or `remote`, not `x`: show --from x f.texts
 `show --from` takes `local` or `remote`, not `both`: show --from both
 `reduce --session` takes 0 to 4294967295, not `x`: reduce --session x
-`host --port` takes 0 to 65535, not `65536`: host --port 65536";
+`host --port` takes 0 to 65535, not `65536`: host --port 65536
+`serve --messages` takes 1 to 100000, not `0`: serve --port 0 --connections 1 --messages 0";
+
+/// The lines of a page.
+const PAGE_LINES: &str = "`at N`
+`frame CONTEXT URL`
+`unframe CONTEXT`
+`log CONTEXT LEVEL TEXT`
+`value ROW`
+`answer ROW`
+`hold ROW`
+`release N`
+`release N ROW`
+`unanswer METHOD`
+`emit EVENT`
+`on METHOD [EVENT..]`
+`names NAME..`
+`send C TEXT`
+`bytes C HEX`
+`raw C HEX`
+`stall C`
+`resume C`
+`cut C`
+`cut C AFTER`
+`close C CODE`
+`refuse N CODE`
+`reset`
+`end`";
 
 const NO_OPTION: &str = "usage
 error: the following required arguments were not provided:
@@ -361,17 +397,37 @@ fn each_mistake_in_a_value_is_told(rt: HostRuntime) -> Result<(), Fail> {
     let alloc = rt.alloc();
     for row in MISTAKES.lines() {
         let (wanted, words) = row.split_once(": ").ok_or("a row")?;
-        let wanted = usage_text(alloc, wanted)?;
+        let wanted = usage_text(alloc, wanted, usage_of(words))?;
         check_text(&rt, row, answer(alloc, words)?, wanted.as_str());
     }
     Ok(())
 }
 
-/// The answer to a line with this mistake.
-fn usage_text(alloc: Global, mistake: &str) -> Result<String, AllocError> {
+#[test]
+fn the_help_of_host_names_each_line_of_a_page(rt: HostRuntime) -> Result<(), Fail> {
+    let help = answer(rt.alloc(), "host --help")?;
+    for line in PAGE_LINES.lines() {
+        assert!(rt; help.contains(line), "{line}");
+    }
+    Ok(())
+}
+
+/// The answer to a line with this mistake, which ends with the usage of the subcommand.
+fn usage_text(alloc: Global, mistake: &str, usage: &str) -> Result<String, AllocError> {
     format!(in alloc;
-        "usage\nerror: {mistake}\n\nUsage: bidi <COMMAND>\n\nFor more information, try '--help'.\n"
+        "usage\nerror: {mistake}\n\nUsage: bidi {usage}\n\nFor more information, try '--help'.\n"
     )
+}
+
+/// The usage of the subcommand that the first word names.
+fn usage_of(words: &str) -> &'static str {
+    match words.split(' ').next() {
+        Some("check") => "check [OPTIONS] [FILE]",
+        Some("show") => "show --from <END> [FILE]",
+        Some("reduce") => "reduce [OPTIONS] --session <NUMBER>",
+        Some("serve") => "serve --port <PORT> --connections <COUNT> --messages <COUNT>",
+        _ => "host [OPTIONS]",
+    }
 }
 
 /// The first line of the answer.
@@ -426,6 +482,7 @@ fn stream_text(alloc: Global, run: StreamRun) -> Result<String, AllocError> {
         StreamRun::ScriptedPlay => String::from_str(alloc, "scripted play"),
         StreamRun::Pair => String::from_str(alloc, "pair"),
         StreamRun::Reduce(session) => format!(in alloc; "reduce {session}"),
+        StreamRun::ScriptedReduce(session) => format!(in alloc; "scripted reduce {session}"),
         StreamRun::Show(side) => format!(in alloc; "show {}", side_name(side)),
         StreamRun::Check(side) => format!(in alloc; "check {}", side_name(side)),
         StreamRun::Why(asked) => why_text(alloc, asked),

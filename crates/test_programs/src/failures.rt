@@ -5,7 +5,7 @@ ghost use Rattle.std.specs.Prelude.{◌≤◌, IfSome};
 
 use bidi_command_line::{BothOptions, StreamRun, WhyOptions};
 use bidi_lines::{Device, Side};
-use bidi_run::run;
+use bidi_run::{Recent, run};
 use std::alloc::{AllocError, Global};
 use std::io;
 use std::io::{ErrorKind, Read, Write};
@@ -17,6 +17,12 @@ const PLAY: &str = "open 1 /session\n> 1 {\"id\":1,\"method\":\"session.status\"
 
 const PLAYED: &str =
     "opened 1\n\n< 1 {\"id\":1,\"result\":{\"message\":\"ready\",\"ready\":true},\"type\":\"success\"}\n";
+
+/// A play with a line of a test.
+const SCRIPT: &str = "open 1 /session\ncut 2\n> 1 {\n";
+
+/// A play whose third line is bad, and whose first ends in a carriage return.
+const BAD: &str = "open 1 /session\r\nat 5\ndrop x\n";
 
 /// Two commands of no known method, and what is shown of them, and what a check writes.
 const TWO: &str = "{\"id\":1,\"method\":\"session.fly\"}\n{\"id\":2,\"method\":\"session.fly\"}\n";
@@ -101,7 +107,8 @@ fn each_line_before_a_failed_read_is_answered(rt: HostRuntime) -> Result<(), Fai
     check_reads(&rt, &BOTH, NO_TEXTS, REFUSED)?;
     // What became of a command is known at the end alone, and what is kept of a play is written then.
     check_reads(&rt, &StreamRun::Pair, PAIR, "")?;
-    check_reads(&rt, &StreamRun::Reduce(1), PLAY, "")
+    check_reads(&rt, &StreamRun::Reduce(1), PLAY, "")?;
+    check_reads(&rt, &StreamRun::ScriptedReduce(1), SCRIPT, "")
 }
 
 #[test]
@@ -114,7 +121,8 @@ fn a_failed_write_ends_the_run(rt: HostRuntime) -> Result<(), Fail> {
     check_writes(&rt, &BOTH, NO_TEXTS, REFUSED)?;
     check_writes(&rt, &BOTH, ASKED, UNANSWERED)?;
     check_writes(&rt, &StreamRun::Pair, PAIR, PAIRED)?;
-    check_writes(&rt, &StreamRun::Reduce(1), PLAY, PLAY)
+    check_writes(&rt, &StreamRun::Reduce(1), PLAY, PLAY)?;
+    check_writes(&rt, &StreamRun::ScriptedReduce(1), SCRIPT, SCRIPT)
 }
 
 #[test]
@@ -122,7 +130,33 @@ fn short_reads_and_writes_change_nothing(rt: HostRuntime) -> Result<(), Fail> {
     check_sizes(&rt, &StreamRun::Play, NAVIGATION, NAVIGATED)?;
     check_sizes(&rt, &StreamRun::Show(Side::Local), TWO, SHOWN)?;
     check_sizes(&rt, &StreamRun::Pair, PAIR, PAIRED)?;
-    check_sizes(&rt, &StreamRun::Reduce(1), PLAY, PLAY)
+    check_sizes(&rt, &StreamRun::Reduce(1), PLAY, PLAY)?;
+    check_sizes(&rt, &StreamRun::ScriptedReduce(1), SCRIPT, SCRIPT)
+}
+
+#[test]
+fn the_bad_line_is_remembered(rt: HostRuntime) {
+    for most in 1..=BAD.len() {
+        let mut source = Recent::new(
+            rt.alloc(),
+            Device::new(StopAt::within(BAD.as_bytes(), most)),
+        );
+        let mut sink = Device::new(io::sink());
+        let mut faults = Device::new(io::sink());
+        let status = run(
+            rt.alloc(),
+            &StreamRun::ScriptedPlay,
+            &mut source,
+            &mut sink,
+            &mut faults,
+        );
+        let recent = std::str::from_utf8(source.recent()).unwrap_or("");
+        assert!(rt;
+            status == 2 && BAD.contains(recent) && recent.contains("drop x\n"),
+            "{most} bytes at a time: {recent}"
+        );
+        assert!(rt; source.has_return(), "{most} bytes at a time");
+    }
 }
 
 #[test]

@@ -194,7 +194,7 @@ test('the end of a host rejects all that waits, and is told with its standard er
 })
 
 test('a host that does not start is told with its status', async () => {
-  await assert.rejects(Host.start('--page', path.join(folder, 'none')), /ended with status 3\.[^]*bidi: input cannot be read/)
+  await assert.rejects(Host.start('--page', path.join(folder, 'none')), /ended with status 3\.[^]*bidi: cannot read .*none: no such file/)
 })
 
 test('a program that is not found is told in one line', async () => {

@@ -184,7 +184,7 @@ async def test_the_end_of_a_host_is_told_with_its_standard_error():
 
 
 def test_a_host_that_does_not_start_is_told_with_its_status(tmp_path):
-    with pytest.raises(HostFault, match=r"(?s)ended with status 3\..*bidi: input cannot be read"):
+    with pytest.raises(HostFault, match=r"(?s)ended with status 3\..*bidi: cannot read .*none: no such file"):
         Host("--page", str(tmp_path / "none"))
 
 
