@@ -22,11 +22,11 @@ from random_scripts import Client, Host, SESSION, TAB
 ROOT = pathlib.Path(__file__).resolve().parent.parent
 MIB = 1 << 20
 # How long a text of one step is, and how many steps there are.
-LENGTH, STEPS = 400_000, 20
+LENGTH, STEPS = 500_000, 30
 # What a connection may keep for later, and what the host may hold beside that and beside the browser.
 KEPT, SPARE = 1 << 17, MIB
 NEW = '{"id":0,"method":"session.new","params":{"capabilities":{}}}'
-SUBSCRIBE = '{"id":1,"method":"session.subscribe","params":{"events":["browsingContext.navigationStarted","log.entryAdded"]}}'
+SUBSCRIBE = '{"id":1,"method":"session.subscribe","params":{"events":["browsingContext","log"]}}'
 STATUS = '{"id":5,"method":"session.status","params":{}}'
 READY = '{"id":5,"result":{"message":"ready","ready":true},"type":"success"}'
 
@@ -124,13 +124,14 @@ def bounded(program, folder, readers, bound, step):
     host.end()
     for it in [first, *slow, good, page]:
         it.socket.close()
-    # A browser keeps the URLs of the entries of its history.
-    spare = SPARE + (readers + 3) * KEPT + (STEPS * LENGTH if step is navigate else 0)
-    # In a step a buffer grows by a text, and by an eighth of what waits in it; a text is also read, parsed and written.
-    sent = (readers + 8) * LENGTH + bound * MIB // 8
+    # A browser keeps the URLs of its history, and its last log entries.
+    spare = SPARE + (readers + 3) * KEPT + STEPS * LENGTH
+    sent = (3 if step is navigate else 1) * (readers + 1) * LENGTH
+    # In a step a buffer grows by a text, or by an eighth of what waits in it. A text is also read, parsed and written.
+    beside = 8 * LENGTH + bound * MIB // 8
     figures = f"{now / MIB:.0f} MiB are held, {most / MIB:.0f} MiB were at most, and {resident / MIB:.0f} MiB were in memory"
-    print(f"{step.__name__}, {readers} readers, a bound of {bound} MiB, {(readers + 1) * LENGTH / MIB:.0f} MiB a step: {figures}")
-    return None if now <= bound * MIB + spare and most <= bound * MIB + sent + spare else figures
+    print(f"{step.__name__}, {readers} readers, a bound of {bound} MiB, {sent / MIB:.0f} MiB a step: {figures}")
+    return None if now <= bound * MIB + spare and most <= bound * MIB + sent + beside + spare else figures
 
 
 def closed(program, folder, descriptor):

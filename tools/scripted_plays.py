@@ -135,14 +135,15 @@ class Test:
         return self.is_known(name) and name not in PROFILE + MODULES
 
     def emitted(self, event):
-        """What is written for an event: once on each connection of each session that is subscribed to it."""
+        """What is written for an event: once on each connection of each session that is subscribed to it. A module of the profile brings
+        only further events, since its own events are listed one by one."""
         method, params = event["method"], event["params"]
         context = params.get("context")
         if "context" not in params and isinstance(params.get("source"), dict):
             context = params["source"].get("context")
         top = context if context in self.tabs else None
         sessions = [session for session, _, names, scope in self.subscriptions
-                    if any(it == method if it in PROFILE else is_in(method, it) for it in names)
+                    if any(it == method or {it, method}.isdisjoint(PROFILE) and is_in(method, it) for it in names)
                     and (scope is None or (top is not None and (scope == "default" or top in scope)))]
         # Sessions come in order of their numbers, and the connections of each in order of opening.
         return [f"< {conn} " + compact({"method": method, "params": params, "type": "event"})

@@ -60,10 +60,10 @@ unfolding escape_byte
 texts_are_wanted = refl
 
 -- each alternative is told once
-pub each_is_told_once : wants_text (term.either term.text term.null ∷ term.text ∷ term.rule target ∷ []) ≡ codes "a text or null or Target"
+pub each_is_told_once : wants_text (term.either term.text term.null ∷ term.text ∷ term.rule target ∷ []) ≡ codes "a string or null or Target"
 each_is_told_once = refl
 
-pub lists_are_wanted : wants_text (term.any_number_of term.text ∷ term.at_least_one term.text ∷ []) ≡ codes "a list or a list with at least one item"
+pub lists_are_wanted : wants_text (term.any_number_of term.text ∷ term.at_least_one term.text ∷ []) ≡ codes "an array or an array with at least one item"
 lists_are_wanted = refl
 
 -- ---- what stands there
@@ -88,26 +88,26 @@ pub text_is_found : found_text (Some (text (codes "a\nb"))) ≡ codes "\"a\\nb\"
 unfolding escape_byte
 text_is_found = refl
 
-pub long_text_is_found : found_text (Some (text (replicate 61 97))) ≡ codes "a text of 61 bytes"
+pub long_text_is_found : found_text (Some (text (replicate 61 97))) ≡ codes "a string of 61 bytes"
 unfolding digits
 long_text_is_found = refl
 
-pub empty_list_is_found : found_text (Some (list no_items)) ≡ codes "an empty list"
+pub empty_list_is_found : found_text (Some (list no_items)) ≡ codes "an empty array"
 empty_list_is_found = refl
 
-pub list_of_one_is_found : found_text (Some (list (item null no_items))) ≡ codes "a list of one item"
+pub list_of_one_is_found : found_text (Some (list (item null no_items))) ≡ codes "an array of one item"
 list_of_one_is_found = refl
 
-pub list_of_two_is_found : found_text (Some (list (item null (item null no_items)))) ≡ codes "a list of 2 items"
+pub list_of_two_is_found : found_text (Some (list (item null (item null no_items)))) ≡ codes "an array of 2 items"
 unfolding digits
 list_of_two_is_found = refl
 
-pub empty_map_is_found : found_text (Some (map no_members)) ≡ codes "an empty map"
+pub empty_map_is_found : found_text (Some (map no_members)) ≡ codes "an empty object"
 empty_map_is_found = refl
 
-pub map_of_one_is_found : found_text (Some (map (member (codes "a") null no_members))) ≡ codes "a map of one member"
+pub map_of_one_is_found : found_text (Some (map (member (codes "a") null no_members))) ≡ codes "an object of one member"
 map_of_one_is_found = refl
 
-pub map_of_two_is_found : found_text (Some (map (member (codes "a") null (member (codes "b") null no_members)))) ≡ codes "a map of 2 members"
+pub map_of_two_is_found : found_text (Some (map (member (codes "a") null (member (codes "b") null no_members)))) ≡ codes "an object of 2 members"
 unfolding digits
 map_of_two_is_found = refl

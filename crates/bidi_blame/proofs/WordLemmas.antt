@@ -198,11 +198,11 @@ pub outline_node-Map : (ms : Named Outline) → outline_node (MapOf ms) ≡ node
 outline_node-Map ms = search (rules, the_outlines)
 
 -- the words of a count as a format joins them
-pub one_part : (kind part : List ℕ) (n : ℕ) → n ≡ 1 → codes "a " ++ (kind ++ (codes " of one " ++ part)) ≡ count_words kind part n
-one_part kind part n e = rw e (ap (λ (t : List ℕ). codes "a " ++ t) (sym (append_assoc kind (codes " of one ") part)))
+pub one_part : (kind part : List ℕ) (n : ℕ) → n ≡ 1 → codes "an " ++ (kind ++ (codes " of one " ++ part)) ≡ count_words kind part n
+one_part kind part n e = rw e (ap (λ (t : List ℕ). codes "an " ++ t) (sym (append_assoc kind (codes " of one ") part)))
 
 pub more_parts : (kind part : List ℕ) (n : ℕ) → n ≢ 0 → n ≢ 1
-    → codes "a " ++ (kind ++ (codes " of " ++ (decimal n ++ (codes " " ++ (part ++ codes "s"))))) ≡ count_words kind part n
+    → codes "an " ++ (kind ++ (codes " of " ++ (decimal n ++ (codes " " ++ (part ++ codes "s"))))) ≡ count_words kind part n
 more_parts kind part n p q =
     let not_none : eqb n 0 ≡ false = ne_eqb n 0 p in
     let not_one : eqb n 1 ≡ false = ne_eqb n 1 q in

@@ -35,9 +35,9 @@ pointer_text (s ∷ ss) = pointer_text ss ++ 47 ∷ step_text s
 
 -- ---- what may stand there
 
--- a list with so many items at least
+-- an array with so many items at least
 abbrev pub list_words : ℕ → List ℕ
-list_words least = if least == 0 then codes "a list" else codes "a list with at least one item"
+list_words least = if least == 0 then codes "an array" else codes "an array with at least one item"
 
 -- whether a term says which members a map has
 abbrev pub is_map : Term → Bool
@@ -45,22 +45,22 @@ is_map (map_of rows o) = true
 is_map (capped τ) = is_map τ
 is_map τ = false
 
--- a rule by its name; a rule that is a map is called a map
+-- a rule by its name; a rule that is an object is called an object
 abbrev pub rule_words : Name → List ℕ
-rule_words n = if is_map (term_of n) then codes "a map" else rule_text n
+rule_words n = if is_map (term_of n) then codes "an object" else rule_text n
 
 -- the words of a term, and of each alternative where it is a choice
 abbrev pub alternatives : Term → List (List ℕ)
 alternatives (exactly s) = quoted s ∷ []
-alternatives text = codes "a text" ∷ []
+alternatives text = codes "a string" ∷ []
 alternatives bool = codes "true or false" ∷ []
 alternatives null = codes "null" ∷ []
 alternatives js_uint = codes "a whole number from 0 to 9007199254740991" ∷ []
 alternatives js_int = codes "a whole number from -9007199254740991 to 9007199254740991" ∷ []
 alternatives any = codes "whole numbers in range and at most 60 levels" ∷ []
 alternatives (list_of least τ) = list_words least ∷ []
-alternatives (pair_of σ τ) = codes "a list of two items" ∷ []
-alternatives (map_of rows o) = codes "a map" ∷ []
+alternatives (pair_of σ τ) = codes "an array of two items" ∷ []
+alternatives (map_of rows o) = codes "an object" ∷ []
 alternatives (either σ τ) = alternatives σ ++ alternatives τ
 alternatives (rule n) = rule_words n ∷ []
 alternatives (capped τ) = codes "at most 60 levels" ∷ []
@@ -88,9 +88,9 @@ choice_text (w ∷ ws) = w ++ or_each ws
 abbrev pub choices : List Term → List (List ℕ)
 choices τs = each_once [] (flat_map alternatives τs)
 
--- whether a map is one of them
+-- whether an object is one of them
 abbrev pub has_map : List Term → Bool
-has_map τs = list_any (bytes_eq (codes "a map")) (choices τs)
+has_map τs = list_any (bytes_eq (codes "an object")) (choices τs)
 
 -- whether these words are the only alternative
 abbrev pub is_only : List ℕ → List (List ℕ) → Bool
@@ -104,20 +104,20 @@ wants_text τs = choice_text (choices τs)
 
 -- ---- what stands there
 
--- the most bytes of a text that is shown whole
+-- the most bytes of a string that is shown whole
 abbrev pub longest_quoted : ℕ
 longest_quoted = 60
 
--- a short text as JSON writes it, or how many bytes it has
+-- a short string as JSON writes it, or how many bytes it has
 abbrev pub text_words : List ℕ → List ℕ
-text_words s = if nat_le (length s) longest_quoted then quoted s else codes "a text of " ++ decimal (length s) ++ codes " bytes"
+text_words s = if nat_le (length s) longest_quoted then quoted s else codes "a string of " ++ decimal (length s) ++ codes " bytes"
 
--- a list or a map by how many parts it has
+-- an array or an object by how many parts it has
 abbrev pub count_words : List ℕ → List ℕ → ℕ → List ℕ
 count_words kind part n =
     if n == 0 then codes "an empty " ++ kind
-    else if n == 1 then codes "a " ++ kind ++ codes " of one " ++ part
-    else codes "a " ++ kind ++ codes " of " ++ decimal n ++ 32 ∷ part ++ codes "s"
+    else if n == 1 then codes "an " ++ kind ++ codes " of one " ++ part
+    else codes "an " ++ kind ++ codes " of " ++ decimal n ++ 32 ∷ part ++ codes "s"
 
 -- the number of members
 abbrev pub count_members : Members → ℕ
@@ -131,11 +131,11 @@ node_text (node.boolean b) = if b then codes "true" else codes "false"
 node_text (node.whole z) = signed_decimal z
 node_text node.odd = codes "a number with a fraction or out of range"
 node_text (node.text s) = text_words s
-node_text (node.list ts) = count_words (codes "list") (codes "item") (count ts)
-node_text (node.map ms) = count_words (codes "map") (codes "member") (count_members ms)
+node_text (node.list ts) = count_words (codes "array") (codes "item") (count ts)
+node_text (node.map ms) = count_words (codes "object") (codes "member") (count_members ms)
 
 -- `nothing` where nothing stands
--- example: `a list of 2 items`
+-- example: `an array of 2 items`
 abbrev pub found_text : Option Node → List ℕ
 found_text None = codes "nothing"
 found_text (Some t) = node_text t

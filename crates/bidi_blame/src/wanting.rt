@@ -125,15 +125,15 @@ impl Alternatives {
         }
     }
 
-    /// Whether one of them is a map.
+    /// Whether one of them is an object.
     ///
     /// # Errors
     /// No memory: an allocation failed.
     pub fn has_map(&self, alloc: Global) -> Result<bool, AllocError>
-        // The result says whether a map is one of the alternatives.
-        ensures { IfOk result (λ b. b ≡ list_any (bytes_eq (codes "a map")) (told_by self.now)) }
+        // The result says whether an object is one of the alternatives.
+        ensures { IfOk result (λ b. b ≡ list_any (bytes_eq (codes "an object")) (told_by self.now)) }
     {
-        is_told(alloc, &self.said, &Said::Plain("a map"))
+        is_told(alloc, &self.said, &Said::Plain("an object"))
     }
 
     /// All of them as one text, with ` or ` between them; `nothing` where there are none.
@@ -188,7 +188,7 @@ fn tell_term(alloc: Global, told: &mut Vec<Said>, term: &'static Term) -> Result
 {
     match term {
         Term::Exactly(text) => tell(alloc, told, Said::Quoted(text)),
-        Term::Text => tell(alloc, told, Said::Plain("a text")),
+        Term::Text => tell(alloc, told, Said::Plain("a string")),
         Term::Bool => tell(alloc, told, Said::Plain("true or false")),
         Term::Null => tell(alloc, told, Said::Plain("null")),
         Term::JsUint => tell(
@@ -207,8 +207,8 @@ fn tell_term(alloc: Global, told: &mut Vec<Said>, term: &'static Term) -> Result
             Said::Plain("whole numbers in range and at most 60 levels"),
         ),
         Term::ListOf(least, _) => tell(alloc, told, Said::Plain(list_words(*least))),
-        Term::PairOf(_, _) => tell(alloc, told, Said::Plain("a list of two items")),
-        Term::MapOf(_, _) => tell(alloc, told, Said::Plain("a map")),
+        Term::PairOf(_, _) => tell(alloc, told, Said::Plain("an array of two items")),
+        Term::MapOf(_, _) => tell(alloc, told, Said::Plain("an object")),
         Term::OneOf(first, rest) => {
             tell_term(alloc, told, first)?;
             tell_terms(alloc, told, rest)
@@ -229,23 +229,23 @@ fn tell_terms(alloc: Global, told: &mut Vec<Said>, terms: &'static [Term]) -> Re
     Ok(())
 }
 
-// A list with so many items at least.
+// An array with so many items at least.
 fn list_words(least: usize) -> &'static str
     ensures { result.now ≡ list_words least }
 {
     if least == 0 {
-        "a list"
+        "an array"
     } else {
-        "a list with at least one item"
+        "an array with at least one item"
     }
 }
 
-// A rule by its name, or `a map`.
+// A rule by its name, or `an object`.
 fn rule_words(name: Name) -> &'static str
     ensures { result.now ≡ rule_words (name_of name) }
 {
     if is_map(name.term()) {
-        "a map"
+        "an object"
     } else {
         name.text()
     }

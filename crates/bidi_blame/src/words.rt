@@ -111,7 +111,7 @@ fn push_number(text: &mut String, number: usize) -> Result<(), AllocError>
 
 /// What stands at a place, in words; `nothing` where nothing stands.
 ///
-/// A text of more than 60 bytes is told by its length, a list by how many items it has, and a map by how many members.
+/// A string of more than 60 bytes is told by its length, an array by how many items it has, and an object by how many members.
 ///
 /// # Errors
 /// No memory: an allocation failed.
@@ -135,8 +135,8 @@ fn tree_words(alloc: Global, tree: &Outline<'_>) -> Result<String, AllocError>
         Outline::Int(whole) => format!(in alloc; "{}", whole.value),
         Outline::Odd => String::from_str(alloc, "a number with a fraction or out of range"),
         Outline::Text(text) => text_words(alloc, text),
-        Outline::List(items) => count_words(alloc, "list", "item", items.len()),
-        Outline::Map(members) => count_words(alloc, "map", "member", members.len()),
+        Outline::List(items) => count_words(alloc, "array", "item", items.len()),
+        Outline::Map(members) => count_words(alloc, "object", "member", members.len()),
     }
 }
 
@@ -147,26 +147,26 @@ fn bool_words(value: bool) -> &'static str
     if value { "true" } else { "false" }
 }
 
-// A text of at most 60 bytes as JSON writes it, or how many bytes it has.
+// A string of at most 60 bytes as JSON writes it, or how many bytes it has.
 fn text_words(alloc: Global, text: &str) -> Result<String, AllocError>
     ensures { IfOk result (λ s. string_bytes s ≡ text_words text.now) }
 {
     if text.len() <= LONGEST_TEXT {
         quote(alloc, text)
     } else {
-        format!(in alloc; "a text of {} bytes", text.len())
+        format!(in alloc; "a string of {} bytes", text.len())
     }
 }
 
-// A list or a map by how many parts it has.
+// An array or an object by how many parts it has.
 fn count_words(alloc: Global, kind: &str, part: &str, count: usize) -> Result<String, AllocError>
     ensures { IfOk result (λ s. string_bytes s ≡ count_words kind.now part.now count) }
 {
     if count == 0 {
         format!(in alloc; "an empty {kind}")
     } else if count == 1 {
-        format!(in alloc; "a {kind} of one {part}")
+        format!(in alloc; "an {kind} of one {part}")
     } else {
-        format!(in alloc; "a {kind} of {count} {part}s")
+        format!(in alloc; "an {kind} of {count} {part}s")
     }
 }

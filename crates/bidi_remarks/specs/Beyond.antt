@@ -81,19 +81,39 @@ ends_in k ss = false
 abbrev pub is_one_of : List (List ℕ) → List ℕ → Bool
 is_one_of texts s = list_any (λ t. bytes_eq t s) texts
 
--- the text is one that only the draft takes there
+-- the name has a colon: the draft leaves such names to browsers
+abbrev pub is_own : List ℕ → Bool
+is_own s = list_any (λ b. b == 58) s
+
+-- the rule is one of commands or of events
+abbrev pub has_method : Option Name → Bool
+has_method (Some command) = true
+has_method (Some message) = true
+has_method (Some event) = true
+has_method n = false
+
+-- the text is one that only the draft takes there: one of its own, or the name of a browser's own command or event
 abbrev pub is_of_draft : Option Name → List PathStep → Option (List ℕ) → Bool
 is_of_draft named steps None = false
-is_of_draft named steps (Some s) = ends_in (draft_texts named).0 steps && is_one_of (draft_texts named).1 s
+is_of_draft named steps (Some s) = ends_in (draft_texts named).0 steps && (is_one_of (draft_texts named).1 s || has_method named && is_own s)
 
 -- a text stands there that only the draft takes
 abbrev pub is_draft_text : Option Name → List PathStep → Option Node → Bool
 is_draft_text named steps o = is_of_draft named steps (option_and_then text_in o)
 
--- no member of this name may stand there, but in the draft it may: a source has a user context
+-- the last step leads to the user context of a source
+abbrev pub is_user_context : Option Name → List PathStep → Bool
+is_user_context (Some source) steps = ends_in (codes "userContext") steps
+is_user_context named steps = false
+
+-- the last step leads to a member whose name is a browser's own
+abbrev pub is_own_member : List PathStep → Bool
+is_own_member (member k ∷ ss) = is_own k
+is_own_member ss = false
+
+-- no member of this name may stand there, but in the draft it may: a source has a user context, and a browser names members of its own
 abbrev pub is_draft_member : Option Name → List PathStep → Bool → Bool
-is_draft_member (Some source) steps wants_nothing = wants_nothing && ends_in (codes "userContext") steps
-is_draft_member named steps wants_nothing = false
+is_draft_member named steps wants_nothing = wants_nothing && (is_user_context named steps || is_own_member steps)
 
 -- the draft takes any value there, of these alternatives: the profile no number with a fraction, and no more than 60 levels of nesting
 abbrev pub is_any : List (List ℕ) → Bool

@@ -2,7 +2,7 @@
 use Rattle.std.specs.Prelude.{◌≡◌, ◌+◌, ◌==◌, ◌&&◌, ◌++◌, ℕ, List, [], ◌∷◌, length, take, nat_lt, Bool, true, false, Option, Some, None}
 use Rattle.std.specs.Prelude.{option_map, option_and_then, unwrap_or, string_bytes, codes, decimal, IsUtf8}
 use Rattle.std.specs.Str.{IsValidUpTo, bytes_eq}
-use Rattle.bidi_tree.specs.Node.{Node, get_of}
+use Rattle.bidi_tree.specs.Node.{Node, get_of, odd}
 use Rattle.bidi_tree.specs.Kind.{text_in}
 use Rattle.bidi_tree.specs.Text.{tree_of_text}
 use Rattle.bidi_shape.specs.Name as rules
@@ -12,7 +12,7 @@ use Rattle.bidi_rules.specs.Names.{rule_text}
 use Rattle.bidi_blame.specs.Reason.{Reason, PathStep, member, item}
 use Rattle.bidi_blame.specs.Blames.{Blames}
 use Rattle.bidi_blame.specs.Said.{told_by}
-use Rattle.bidi_blame.specs.Words.{choice_text, pointer_text, wants_text}
+use Rattle.bidi_blame.specs.Words.{choice_text, node_text, pointer_text, wants_text}
 use Rattle.bidi_show.specs.MessageLines.{HasTree, Refuses}
 use Rattle.bidi_remarks.specs.Beyond as reason
 use Rattle.bidi_remarks.specs.Claim.{has_text, kind_of, short_text}
@@ -168,6 +168,11 @@ trouble_of (code.NoFit m) = no_fit (misfit_of m)
 abbrev pub id_of : Trouble → Option ℕ
 id_of (bad b) = None
 id_of (no_fit m) = m.id
+
+-- the text does not fit because its id is a number with a fraction, an exponent or out of range
+abbrev pub has_odd_id : Trouble → Bool
+has_odd_id (bad b) = false
+has_odd_id (no_fit m) = bytes_eq m.pointer (codes "/id") && bytes_eq m.has (node_text odd)
 
 -- the line is the first of an input, and begins with a byte order mark
 abbrev pub begins_with_mark : ℕ → List ℕ → Bool

@@ -66,7 +66,7 @@ pub(crate) fn no_key(
     reason: &Reason<'_, '_>,
     alternatives: &Alternatives,
 ) -> Result<Option<&'static str>, AllocError>
-    ensures { IfOk result (λ k. option_map (λ s. s.now) k ≡ (if list_any (bytes_eq (codes "a map")) (told_by alternatives.now)
+    ensures { IfOk result (λ k. option_map (λ s. s.now) k ≡ (if list_any (bytes_eq (codes "an object")) (told_by alternatives.now)
         then keyless (option_map name_of reason.now.named) (option_map (λ t. outline_node t.now) reason.now.found) else None)) }
 {
     let Some(words) = keyless(reason.named, reason.found) else {

@@ -5,7 +5,7 @@ ghost use Rattle.bidi_shape.specs.Term.{rule};
 ghost use Rattle.bidi_shape.specs.Fits.{Fits};
 ghost use Rattle.bidi_show.specs.MessageLines.{HasTree, Refuses};
 ghost use Rattle.bidi_lines.specs.declared.side.Side.TheVariants.{Local, Remote};
-ghost use Rattle.bidi_remarks.specs.Trouble.{HasMisfit, HasNoTree, HasTrouble, HasTroubleAt, IsTrouble, begins_with_mark, id_of, is_beyond, is_too_large, misfit_of, rule_of, trouble_of};
+ghost use Rattle.bidi_remarks.specs.Trouble.{HasMisfit, HasNoTree, HasTrouble, HasTroubleAt, IsTrouble, begins_with_mark, has_odd_id, id_of, is_beyond, is_too_large, misfit_of, rule_of, trouble_of};
 
 use crate::bad_text::BadText;
 use crate::misfit::{Misfit, find_misfit};
@@ -152,6 +152,20 @@ pub fn id_of(why: &Trouble) -> Option<JsUint>
     match why {
         Trouble::Bad(_) => None,
         Trouble::NoFit(misfit) => misfit.id,
+    }
+}
+
+/// Whether a text does not fit because its id is a number with a fraction, an exponent or out of range. Takes no memory.
+pub fn has_odd_id(why: &Trouble) -> bool
+    // The place is that of the id, and an odd number is there.
+    ensures { result ≡ has_odd_id (trouble_of why.now) }
+{
+    match why {
+        Trouble::Bad(_) => false,
+        Trouble::NoFit(misfit) => {
+            misfit.pointer.as_str() == "/id"
+                && misfit.has.as_str() == "a number with a fraction or out of range"
+        }
     }
 }
 

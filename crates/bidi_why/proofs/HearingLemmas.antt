@@ -25,7 +25,7 @@ use Rattle.bidi_show.specs.MessageLines as shows
 use Rattle.bidi_show.specs.MessageLines.{HasVerdict, Refuses, verdict_shown}
 use Rattle.bidi_lines.specs.declared.side.Side.TheVariants.{Local, Remote}
 use Rattle.bidi_why.specs.Conversing.{Hears, HearsLine, Standing, is_marked, is_no_text, is_refused, is_text, is_too_long, mark_of, refused_words, is_message, is_one_too_many, is_sent, is_sent_twice, IsTold, behind, kind_in, of_answer, of_event, of_failure, of_refused, of_result, of_stray, was_refused, with_command, with_refused, without_refused}
-use Rattle.bidi_why.specs.Conversing.{answered, is_no_message, lines_left, settled_id, with_answer}
+use Rattle.bidi_why.specs.Conversing.{answered, is_no_message, kept_of, lines_left, settled_id, with_answer}
 use Rattle.bidi_remarks.specs.Results.{HasBadResult, TellsBadResult}
 use Rattle.bidi_why.specs.Hearing.{Notes, Takes}
 use Rattle.bidi_why.specs.Hearing as hearing
@@ -41,6 +41,8 @@ use Rattle.bidi_messages.specs.declared.text.MessageFault.{MessageFault}
 use Rattle.bidi_messages.specs.declared.text.MessageFault.TheVariants.{NotJson, NoFit}
 use Rattle.bidi_why.specs.Hearing.{IsJudged, IsSender, IsStray, to_none, to_refused}
 use Rattle.bidi_remarks.specs.Remark.{Remark, bad_line, fault, failed, id_waits, no_message, stray, too_many}
+use Rattle.bidi_why.specs.declared.ids.Kept.{Kept}
+use Rattle.bidi_why.specs.declared.ids.Kept.TheVariants.{Id}
 use Rattle.bidi_why.specs.declared.judging.Judged.{Judged}
 use Rattle.bidi_why.specs.declared.judging.Judged.TheVariants as judged
 use Rattle.bidi_params.specs.declared.error_code.ErrorCode.{ErrorCode}
@@ -78,7 +80,7 @@ noted n s text t id method s' o judged is_id is_method (hearing.is_twice e) =
     subst (λ (i : ℕ). Hears n s text Local (Some (id_waits i method)) s) is_id
     (is_sent_twice t method judged is_method (ap (note_refusal s.waiting) is_id ∙ e))
 noted n s text t id method s' o judged is_id is_method (hearing.is_one_too_many e) =
-    subst (λ (i : ℕ). Hears n s text Local (Some (too_many i method)) (with_refused (Some i) s)) is_id
+    subst (λ (i : ℕ). Hears n s text Local (Some (too_many i method)) (with_refused (Id i) s)) is_id
     (is_one_too_many t method judged is_method (ap (note_refusal s.waiting) is_id ∙ e))
 
 -- ---- texts of the remote end
@@ -170,7 +172,7 @@ from_event m e id kind well is =
 
 -- ---- noting
 
-module _ (n : ℕ) (old new : LocalEnd) (lines : List (ℕ × ℕ)) (refused : List ℕ) (id : ℕ) (method : Method) (last : ℕ) where
+module _ (n : ℕ) (old new : LocalEnd) (lines : List (ℕ × ℕ)) (refused : List Kept) (id : ℕ) (method : Method) (last : ℕ) where
   abbrev unsaid : Standing
   unsaid = record { waiting = waiting_in old; lines = lines; refused = refused }
 
@@ -195,14 +197,14 @@ module _ (n : ℕ) (old new : LocalEnd) (lines : List (ℕ × ℕ)) (refused : L
   -- nor does one too many, whose id is kept
   pub notes_too_many : (A : Type 0) (f : NoteFault) (o : Remark) (s' : Standing) → f ≡ TooManyPending
       → IsNoted (let r : Result A NoteFault = Err f in r) (note_refusal (waiting_in old) id) → Stands new last (waiting_in old) → o ≡ too_many id method
-      → s' ≡ with_refused (Some id) (record { waiting = waiting_in new; lines = lines; refused = refused })
+      → s' ≡ with_refused (Id id) (record { waiting = waiting_in new; lines = lines; refused = refused })
       → Notes n unsaid id method (Some o) s'
   notes_too_many A f o s' is noted stands e after =
       let refusal = subst (λ (x : NoteFault). IsNoted (let r : Result A NoteFault = Err x in r) (note_refusal (waiting_in old) id)) is noted in
-      let same : s' ≡ with_refused (Some id) unsaid =
-      after ∙ ap (λ (w : Pending). with_refused (Some id) (record { waiting = w; lines = lines; refused = refused })) stands.waiting in
+      let same : s' ≡ with_refused (Id id) unsaid =
+      after ∙ ap (λ (w : Pending). with_refused (Id id) (record { waiting = w; lines = lines; refused = refused })) stands.waiting in
       subst (λ (z : Standing). Notes n unsaid id method (Some o) z) (sym same)
-      (subst (λ (x : Remark). Notes n unsaid id method (Some x) (with_refused (Some id) unsaid)) (sym e) (hearing.is_one_too_many refusal))
+      (subst (λ (x : Remark). Notes n unsaid id method (Some x) (with_refused (Id id) unsaid)) (sym e) (hearing.is_one_too_many refusal))
 
 -- ---- answers to none that waits
 
@@ -230,11 +232,11 @@ judged_refused line j id code h is =
 -- and heard so
 pub heard_refused : (n : ℕ) (s s' : Standing) (line : List ℕ) (j : Judged) (id : Option JsUint) (code : ErrorCode) (brief : List ℕ) (why : Trouble) → IsJudged line j
     → j ≡ judged.Refused id code → brief ≡ refused_words (option_map (λ n. n.value) id) code → IsTrouble Local line why
-    → s' ≡ with_refused (option_map (λ n. n.value) id) s → Hears n s line Local (Some (fault (Some Local) None brief why)) s'
+    → s' ≡ with_refused (kept_of (option_map (λ n. n.value) id) why) s → Hears n s line Local (Some (fault (Some Local) None brief why)) s'
 heard_refused n s s' line j id code brief why h is words trouble after =
     let here = subst (IsJudged line) is h in
     subst (λ (z : Standing). Hears n s line Local (Some (fault (Some Local) None brief why)) z) (sym after)
-    (subst (λ (b : List ℕ). Hears n s line Local (Some (fault (Some Local) None b why)) (with_refused (option_map (λ n. n.value) id) s)) (sym words)
+    (subst (λ (b : List ℕ). Hears n s line Local (Some (fault (Some Local) None b why)) (with_refused (kept_of (option_map (λ n. n.value) id) why) s)) (sym words)
     (is_refused (option_map (λ n. n.value) id) code why here trouble))
 
 -- what is judged accepted is heard as it is noted
@@ -280,16 +282,16 @@ no_misfit w s t m (local.is_answer u mm a b c d) tree f = (λ e. cc, λ e. cc)
 no_misfit w s t m (local.is_bad_result u mm a b c d) tree f = (λ e. cc, λ e. cc)
 
 -- a stray answer is told as it is found
-stray_as : (s s' : Standing) (t : Node) (id : Option ℕ) (kind : List ℕ) (o : Option Remark) → IsSender t id kind → (Fits t (rule event) → ⊥)
+stray_as : (s : Standing) (t : Node) (id : Option ℕ) (kind : List ℕ) (s' : Standing) (o : Option Remark) → IsSender t id kind → (Fits t (rule event) → ⊥)
     → IsStray s id kind o s' → IsTold s t local.Stray o s'
-stray_as s s' t id kind o (hearing.of_answer is_id is_kind) none (to_refused was) =
+stray_as s t id kind s' o (hearing.of_answer is_id is_kind) none (to_refused was) =
     subst (λ (x : Option ℕ). IsTold s t local.Stray None (without_refused x s)) (sym is_id) (of_refused (ap (λ x. was_refused x s) (sym is_id) ∙ was))
-stray_as s s' t id kind o (hearing.of_answer is_id is_kind) none (to_none was) =
+stray_as s t id kind s' o (hearing.of_answer is_id is_kind) none (to_none was) =
     subst (λ (x : Option ℕ). IsTold s t local.Stray (Some (stray x kind)) s) (sym is_id)
     (subst (λ (k : List ℕ). IsTold s t local.Stray (Some (stray (echoed_id t) k)) s) (sym is_kind) (of_stray (ap (λ x. was_refused x s) (sym is_id) ∙ was)))
-stray_as s s' t id kind o (hearing.of_event f) none h = absurd (none f)
+stray_as s t id kind s' o (hearing.of_event f) none h = absurd (none f)
 
-module _ (old new : LocalEnd) (lines lines' : List (ℕ × ℕ)) (refused : List ℕ) (text : List ℕ) (t : Node) (m : Meaning) (last : ℕ) (means : IsMeaningOf (waiting_in old) t m)
+module _ (old new : LocalEnd) (lines lines' : List (ℕ × ℕ)) (refused : List Kept) (text : List ℕ) (t : Node) (m : Meaning) (last : ℕ) (means : IsMeaningOf (waiting_in old) t m)
     (stands : Stands new last (settled (waiting_in old) m)) (left : lines' ≡ lines_left (settled_id m) lines) (tree : tree_of text ≡ Some t) (r : outcome.Outcome) (told : IsOutcomeOf (waiting_in old) m r) where
   abbrev before : Standing
   before = record { waiting = waiting_in old; lines = lines; refused = refused }
@@ -394,7 +396,7 @@ module _ (old new : LocalEnd) (lines lines' : List (ℕ × ℕ)) (refused : List
       let lines_same : lines' ≡ lines = left ∙ ap (λ (x : Meaning). lines_left (settled_id x) lines) is in
       let here = subst (λ (w : Pending). IsStray (record { waiting = w; lines = lines; refused = refused }) id kind (view o) s') same
       (subst (λ (ls : List (ℕ × ℕ)). IsStray (record { waiting = waiting_in new; lines = ls; refused = refused }) id kind (view o) s') lines_same h) in
-      (local.Stray, subst (IsMeaningOf (waiting_in old) t) is means, stray_as before s' t id kind (view o) from none here)
+      (local.Stray, subst (IsMeaningOf (waiting_in old) t) is means, stray_as before t id kind s' (view o) from none here)
 
 -- ---- lines
 

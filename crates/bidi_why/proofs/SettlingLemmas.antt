@@ -28,6 +28,7 @@ use Rattle.bidi_local.specs.Receiving.{IsMeaningOf}
 use Rattle.bidi_local.specs.View.{Stands, waiting_in}
 use Rattle.bidi_local.specs.declared.local_end.LocalEnd.{LocalEnd}
 use Rattle.bidi_local.proofs.OneMeaning.{response_type, event_is_typed}
+use Rattle.bidi_why.specs.declared.ids.Kept.{Kept}
 use Rattle.bidi_why.specs.Conversing.{Standing, answered, kind_in, lines_left, settled_id, was_refused, with_answer, without_command, without_refused}
 
 -- an error reads back
@@ -80,7 +81,7 @@ module _ (w : Pending) (id : JsUint) (code : ErrorCode) (s : List ℕ) (reads : 
 
 -- ---- what stands behind it
 
-module _ (old new : LocalEnd) (lines lines' : List (ℕ × ℕ)) (refused : List ℕ) (id : ℕ) (last : ℕ) where
+module _ (old new : LocalEnd) (lines lines' : List (ℕ × ℕ)) (refused : List Kept) (id : ℕ) (last : ℕ) where
   abbrev before : Standing
   before = record { waiting = waiting_in old; lines = lines; refused = refused }
 
@@ -104,7 +105,7 @@ module _ (old new : LocalEnd) (lines lines' : List (ℕ × ℕ)) (refused : List
   }
 
 -- the same of an error that was read
-pub settled_by_error : (old new : LocalEnd) (lines lines' : List (ℕ × ℕ)) (refused : List ℕ) (id : JsUint) (last : ℕ) (code : ErrorCode) (t : Node)
+pub settled_by_error : (old new : LocalEnd) (lines lines' : List (ℕ × ℕ)) (refused : List Kept) (id : JsUint) (last : ℕ) (code : ErrorCode) (t : Node)
     (m : Meaning) (o : Option ℕ) (b : Bool) → t ≡ error_tree (Some id.value) code → IsMeaningOf (waiting_in old) t m
     → Stands new last (settled (waiting_in old) m) → o ≡ settled_id m → lines' ≡ lines_left o lines → is_some o ≡ b
     → Settles old new lines lines' refused id.value last b

@@ -2,7 +2,7 @@
 -- that sent just the commands which are accepted.
 use Rattle.std.specs.Prelude.{◌≡◌, ℕ, ◌+◌, ◌⊎◌, Bool, false, true, ◌||◌, ◌&&◌, ◌==◌, not, nat_lt, List, [], ◌∷◌, ◌++◌, filter, length, map, position, remove, replicate, codes, IsUtf8, if◌then◌else◌}
 use Rattle.std.specs.Prelude.{Option, Some, None, is_some, option_and_then, unwrap_or}
-use Rattle.std.specs.List.{flat_map, list_any}
+use Rattle.std.specs.List.{flat_map}
 use Rattle.bidi_tree.specs.Node.{Node, get_of}
 use Rattle.bidi_tree.specs.Kind.{text_in}
 use Rattle.bidi_tree.specs.Text.{tree_of}
@@ -28,8 +28,10 @@ use Rattle.bidi_lines.specs.declared.side.Side.TheVariants.{Local, Remote}
 use Rattle.bidi_show.specs.MessageLines.{HasVerdict, Refuses, id_text}
 use Rattle.bidi_blame.specs.Blames.{Blames}
 use Rattle.bidi_blame.specs.Reason.{Reason}
-use Rattle.bidi_remarks.specs.Trouble.{IsTrouble, Trouble, id_of, begins_with_mark}
+use Rattle.bidi_remarks.specs.Trouble.{IsTrouble, Trouble, has_odd_id, id_of, begins_with_mark}
 use Rattle.bidi_why.specs.Telling.{Whole, report_run}
+use Rattle.bidi_why.specs.declared.ids.Kept.{Kept}
+use Rattle.bidi_why.specs.declared.ids.Kept.TheVariants.{Any, Id, Null}
 use Rattle.bidi_remarks.specs.Explaining.{remark_counted_as}
 use Rattle.bidi_why.specs.Summary.{Entry, any_fault, is_log, unanswered}
 use Rattle.bidi_remarks.specs.Remark.{Remark, bad_line, bad_result, failed, fault, id_waits, is_beyond, line_of, no_message, remark_cause, remark_line, stray, too_many, unanswered_line}
@@ -45,8 +47,8 @@ pub record Standing : Type 0 where
   pub waiting : Pending
   -- the id of each of them, and the number of its line
   pub lines : List (ℕ × ℕ)
-  -- the ids of commands that were refused and have no answer yet
-  pub refused : List ℕ
+  -- the ids that the answers to refused texts can have which have no answer yet
+  pub refused : List Kept
 
 -- nothing was said
 abbrev pub silence : Standing
@@ -65,32 +67,50 @@ abbrev pub without_command : ℕ → Standing → Standing
 without_command id s = record { waiting = without s.waiting id; lines = lines_without id s.lines; refused = s.refused }
 
 -- so many are kept at most
-abbrev pub kept : List ℕ → ℕ → List ℕ
+abbrev pub kept : List Kept → Kept → List Kept
 kept ids id = if nat_lt (length ids) most_pending then ids ++ id ∷ [] else ids
 
--- the command is refused, which has an id or none
-abbrev pub with_refused : Option ℕ → Standing → Standing
-with_refused None s = s
-with_refused (Some id) s = record { waiting = s.waiting; lines = s.lines; refused = kept s.refused id }
+-- a text was refused, whose answer can have this id
+abbrev pub with_refused : Kept → Standing → Standing
+with_refused id s = record { waiting = s.waiting; lines = s.lines; refused = kept s.refused id }
 
--- whether a command of that id was refused, and has no answer
+-- the id of the answer to a refused text: the text's own, `null` if it has none, and any id if a browser may read one in it
+abbrev pub kept_of : Option ℕ → Trouble → Kept
+kept_of (Some id) why = Id id
+kept_of None why = if has_odd_id why then Any else Null
+
+-- whether it is this id that is kept
+abbrev pub is_id : Option ℕ → Kept → Bool
+is_id (Some id) (Id x) = x == id
+is_id None Null = true
+is_id id k = false
+
+-- whether any id is
+abbrev pub is_any : Kept → Bool
+is_any Any = true
+is_any k = false
+
+-- the one place, or else the other
+abbrev pub or_else : Option ℕ → Option ℕ → Option ℕ
+or_else None o = o
+or_else (Some i) o = Some i
+
+-- the place of the first of these ids that is this one, or else of the first that is any
+abbrev pub place_of : Option ℕ → List Kept → Option ℕ
+place_of id ids = or_else (position (is_id id) ids) (position is_any ids)
+
+-- whether an answer with that id answers a text that was refused, and has no answer
 abbrev pub was_refused : Option ℕ → Standing → Bool
-was_refused None s = false
-was_refused (Some id) s = list_any (λ x. x == id) s.refused
+was_refused id s = is_some (place_of id s.refused)
 
 -- the ids without the one at this place
-abbrev pub without_at : Option ℕ → List ℕ → List ℕ
+abbrev pub without_at : Option ℕ → List Kept → List Kept
 without_at None ids = ids
 without_at (Some i) ids = remove ids i
 
--- the ids without the first that is this one
-abbrev pub without_first : ℕ → List ℕ → List ℕ
-without_first id ids = without_at (position (λ x. x == id) ids) ids
-
--- one command of this id that was refused has its answer
+-- one text that was refused has its answer, which has this id
 abbrev pub without_refused : Option ℕ → Standing → Standing
-without_refused None s = s
-without_refused (Some id) s = record { waiting = s.waiting; lines = s.lines; refused = without_first id s.refused }
+without_refused id s = record { waiting = s.waiting; lines = s.lines; refused = without_at (place_of id s.refused) s.refused }
 
 -- the id of the command that a message settles, if it settles one
 abbrev pub settled_id : Meaning → Option ℕ
@@ -159,9 +179,9 @@ pub data Hears (n : ℕ) (s : Standing) (text : List ℕ) : Side → Option Rema
       → note_refusal s.waiting (id_in t) ≡ Some IdWaits → Hears n s text Local (Some (id_waits (id_in t) method)) s
   is_one_too_many : (t : Node) (method : Method) → HasVerdict text (Accepted t) → method_in t ≡ method_text method
       → note_refusal s.waiting (id_in t) ≡ Some TooManyPending
-      → Hears n s text Local (Some (too_many (id_in t) method)) (with_refused (Some (id_in t)) s)
+      → Hears n s text Local (Some (too_many (id_in t) method)) (with_refused (Id (id_in t)) s)
   is_refused : (id : Option ℕ) (code : ErrorCode) (why : Trouble) → HasVerdict text (Refused id code) → IsTrouble Local text why
-      → Hears n s text Local (Some (fault (Some Local) None (refused_words id code) why)) (with_refused id s)
+      → Hears n s text Local (Some (fault (Some Local) None (refused_words id code) why)) (with_refused (kept_of id why) s)
   -- a message means what it means to the local end
   is_message : (t : Node) (meaning : Meaning) (o : Option Remark) (s' : Standing) → IsUtf8 text → tree_of text ≡ Some t → Means s.waiting text meaning
       → IsTold s t meaning o s' → Hears n s text Remote o s'

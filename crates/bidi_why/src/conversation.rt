@@ -14,7 +14,7 @@ ghost use Rattle.bidi_local.specs.View.{meaning_of};
 ghost use Rattle.bidi_local.specs.Outcome.{IsOutcomeOf};
 ghost use Rattle.bidi_remarks.specs.Explaining.{told_of};
 ghost use Rattle.bidi_why.specs.Conversing.{Hears, HearsLine, Standing, answered, at_line, entry_of, kept_remarks, remark_lines, lines_left, lines_without, settled_id, silence, was_refused, with_answer};
-ghost use Rattle.bidi_why.specs.Conversing.{with_refused, without_command, without_first, without_refused};
+ghost use Rattle.bidi_why.specs.Conversing.{kept_of, with_refused, without_command, without_refused};
 ghost use Rattle.bidi_why.specs.Explainers.{HasConversed, standing_of, text_in};
 ghost use Rattle.bidi_why.specs.Summary.{entries_in};
 ghost use Rattle.bidi_why.specs.Hearing.{IsJudged, IsSender, IsStray, Notes, Takes};
@@ -24,7 +24,7 @@ ghost use Rattle.bidi_remarks.specs.Remark.{remark_of};
 ghost use Rattle.bidi_remarks.specs.Trouble.{id_of, trouble_of};
 
 use crate::explainer::Explainer;
-use crate::ids::{forget, is_among, remove_first};
+use crate::ids::{Kept, forget, is_among, kept_of, remove_first};
 use crate::judging::{Judged, judge_text, sender};
 use crate::next_line::Line;
 use crate::one_side::boxed_scratch;
@@ -44,7 +44,7 @@ use bidi_tree::JsUint;
 use json::Scratch;
 use std::alloc::{AllocError, Global};
 
-/// How many ids of refused commands are kept.
+/// How many ids of refused texts are kept.
 const MOST_REFUSED: usize = 1024;
 
 /// What tells of the lines of a conversation.
@@ -57,8 +57,8 @@ pub(crate) struct Conversation {
     pub end: LocalEnd,
     /// The id of each command that waits, and the number of its line.
     pub lines: Vec<(u64, u64)>,
-    // The ids of commands that were refused and have no answer yet.
-    refused: Vec<u64>,
+    // The ids that the answers to refused texts can have which have no answer yet.
+    refused: Vec<Kept>,
     // What the lines are read in.
     scratch: Box<Scratch>,
 }
@@ -159,9 +159,9 @@ impl Conversation {
         match judge_text(alloc, text, self.scratch.as_mut())? {
             Judged::Accepted(id, method) => self.note(alloc, number, id, method),
             Judged::Refused(id, code) => {
-                self.refuse(id)?;
                 let brief = refused_line(alloc, id, code)?;
                 let why = trouble_in(alloc, Side::Local, text, self.scratch.as_mut())?;
+                self.refuse(kept_of(id, &why))?;
                 Ok(Some(Remark::Fault(Some(Side::Local), None, brief, why)))
             }
         }
@@ -186,23 +186,21 @@ impl Conversation {
             }
             Err(NoteFault::IdWaits) => Ok(Some(id_waits(alloc, id, method)?)),
             Err(NoteFault::TooManyPending) => {
-                self.refuse(Some(id))?;
+                self.refuse(Kept::Id(id.value))?;
                 Ok(Some(too_many(alloc, id, method)?))
             }
             Err(NoteFault::NoMemory) => Err(AllocError),
         }
     }
 
-    // A command of this id was refused.
-    fn refuse(&mut self, id: Option<JsUint>) -> Result<(), AllocError>
+    // A text was refused, whose answer can have this id.
+    fn refuse(&mut self, id: Kept) -> Result<(), AllocError>
         ensures form { self.new.form ≡ self.old.form }
         ensures only { self.new.profile_only ≡ self.old.profile_only }
-        ensures refused { OnOk result (standing_of self.new ≡ with_refused (option_map (λ n. n.value) id) (standing_of self.old)) }
+        ensures refused { OnOk result (standing_of self.new ≡ with_refused id (standing_of self.old)) }
     {
-        if let Some(id) = id {
-            if self.refused.len() < MOST_REFUSED {
-                self.refused.push(id.value)?;
-            }
+        if self.refused.len() < MOST_REFUSED {
+            self.refused.push(id)?;
         }
         Ok(())
     }
@@ -272,20 +270,17 @@ impl Conversation {
         Ok(Some(stray(alloc, id, kind)?))
     }
 
-    // Whether the id is that of a refused command without an answer; it has one now.
+    // Whether an answer with this id answers a refused text without an answer; the text has one now.
     fn answers_refused(&mut self, id: Option<JsUint>) -> bool
         ensures form { self.new.form ≡ self.old.form }
         ensures only { self.new.profile_only ≡ self.old.profile_only }
         ensures was { result ≡ was_refused (option_map (λ n. n.value) id) (standing_of self.old) }
         ensures no_more { standing_of self.new ≡ (if result then without_refused (option_map (λ n. n.value) id) (standing_of self.old) else standing_of self.old) }
     {
-        let Some(id) = id else {
-            return false;
-        };
-        if !is_among(&self.refused, id.value) {
+        if !is_among(&self.refused, id) {
             return false;
         }
-        remove_first(&mut self.refused, id.value);
+        remove_first(&mut self.refused, id);
         true
     }
 

@@ -26,7 +26,7 @@ use std::alloc::{AllocError, Global};
 /// as a text of its end. Answers are held against the commands: a command that is accepted waits from then on, as at a [`LocalEnd`](bidi_local::LocalEnd)
 /// that sent just these commands, and messages mean what they mean to it. So it is told, too, where a command has the id of one that waits, or comes
 /// while 1,024 wait; where a response or an error answers no command that waits; where a result does not fit the rule of its command's method; where a
-/// command failed, which is no fault; and, behind the last line, which commands were never answered. Of an answer to a command that was refused nothing
+/// command failed, which is no fault; and, behind the last line, which commands were never answered. Of an answer to a text that was refused nothing
 /// is told, as long as its id is one of the first 1,024 such ids without an answer.
 ///
 /// A refused text of the remote end answers the command whose id it has. Its line says so, and the command no longer waits.

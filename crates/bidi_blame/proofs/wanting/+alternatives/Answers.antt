@@ -4,7 +4,7 @@ use Rattle.std.proofs.lemmas.Result.{on_ok_weaker}
 use Rattle.bidi_rules.specs.Grammar.{grammar}
 use Rattle.bidi_blame.specs.Words.{alternatives, each_once}
 use Rattle.bidi_rules.specs.declared.term.Term.{Term}
-use Rattle.bidi_rules.proofs.GrammarLemmas.{grammar-Capped, grammar-OneOf}
+use Rattle.bidi_rules.proofs.GrammarLemmas.{grammar-Capped, grammar-OneOf, grammar-PairOf}
 use Rattle.bidi_blame.proofs.WordLemmas.{choice_told, told_one_more, grammar-Bool, grammar-JsUint, grammar-JsInt, grammar-Any}
 use Rattle.bidi_blame.proofs.wanting.+alternatives.Goals as goal
 
@@ -19,6 +19,9 @@ tell_term-returns-in-JsInt t c = rw (c.in-JsInt.is, grammar-JsInt) c.tell-in-JsI
 
 pub tell_term-returns-in-Any : goal.tell_term-returns-in-Any
 tell_term-returns-in-Any t c = rw (c.in-Any.is, grammar-Any) c.tell-in-Any.ensures
+
+pub tell_term-returns-in-PairOf : goal.tell_term-returns-in-PairOf
+tell_term-returns-in-PairOf t c = rw (c.in-PairOf.is, grammar-PairOf c.in-PairOf.field-0 c.in-PairOf.field-1) c.tell-in-PairOf.ensures
 
 pub tell_term-returns-in-Capped : goal.tell_term-returns-in-Capped
 tell_term-returns-in-Capped t c = rw (c.in-Capped.is, grammar-Capped c.in-Capped.field-0) c.tell-in-Capped.ensures

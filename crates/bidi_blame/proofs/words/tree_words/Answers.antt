@@ -9,10 +9,10 @@ returns-in-List c =
     let long : c.len.result ≡ length c.in-List.items.items = search rules in
     let many = long ∙ length-outline_items c.in-List.items.items in
     rw (c.in-List.is, outline_node-List c.in-List.items)
-    (subst (λ (n : ℕ). IfOk c.count_words.result (λ s. string_bytes s ≡ count_words (codes "list") (codes "item") n)) many c.count_words.ensures)
+    (subst (λ (n : ℕ). IfOk c.count_words.result (λ s. string_bytes s ≡ count_words (codes "array") (codes "item") n)) many c.count_words.ensures)
 
 pub returns-in-Map : goal.returns-in-Map
 returns-in-Map c =
     let many = c.len-in-Map.ensures ∙ length-named_outlines c.in-Map.members.entries.items in
     rw (c.in-Map.is, outline_node-Map c.in-Map.members)
-    (subst (λ (n : ℕ). IfOk c.count_words-in-Map.result (λ s. string_bytes s ≡ count_words (codes "map") (codes "member") n)) many c.count_words-in-Map.ensures)
+    (subst (λ (n : ℕ). IfOk c.count_words-in-Map.result (λ s. string_bytes s ≡ count_words (codes "object") (codes "member") n)) many c.count_words-in-Map.ensures)

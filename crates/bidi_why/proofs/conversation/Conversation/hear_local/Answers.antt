@@ -1,4 +1,5 @@
-use Rattle.std.proofs.Common.{option_map, string_bytes}
+use Rattle.std.proofs.Common.{◌∙◌, ap, option_map, string_bytes}
+use Rattle.bidi_why.specs.Conversing.{with_refused}
 use Rattle.bidi_why.specs.Explainers.{standing_of}
 use Rattle.bidi_remarks.specs.Remark.{remark_of}
 use Rattle.bidi_remarks.specs.Trouble.{trouble_of}
@@ -13,8 +14,9 @@ returns-in-Accepted-clause-heard c =
     judged_noted c.args.number (standing_of c.args.self.now) (standing_of c.note.new.self) c.args.text.now c.in_ok-id.field-0 c.in-Accepted.id c.in-Accepted.method
     (option_map remark_of) c.note.result c.in_ok-id.ensures c.in-Accepted.is c.note.ensures.noted
 
-pub returns-in_ok-why-in-Refused-clause-heard : goal.returns-in_ok-why-in-Refused-clause-heard
-returns-in_ok-why-in-Refused-clause-heard c =
+pub returns-in_ok-refuse-in-Refused-clause-heard : goal.returns-in_ok-refuse-in-Refused-clause-heard
+returns-in_ok-refuse-in-Refused-clause-heard c =
     heard_refused c.args.number (standing_of c.args.self.now) (standing_of c.refuse.new.self) c.args.text.now c.in_ok-id.field-0 c.in-Refused.id c.in-Refused.code
     (string_bytes c.in_ok-brief-in-Refused.brief) (trouble_of c.in_ok-why-in-Refused.why) c.in_ok-id.ensures c.in-Refused.is
-    c.in_ok-brief-in-Refused.ensures c.in_ok-why-in-Refused.ensures c.in_ok-refuse-in-Refused.ensures.refused
+    c.in_ok-brief-in-Refused.ensures c.in_ok-why-in-Refused.ensures
+    (c.in_ok-refuse-in-Refused.ensures.refused ∙ ap (λ k. with_refused k (standing_of c.args.self.now)) c.kept_of.ensures)
