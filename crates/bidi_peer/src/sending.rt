@@ -140,6 +140,8 @@ impl<S: Read + Write + Drop> Peer<S> {
         ensures ends { OnOk result (self.new.state ≢ Open) }
         // If the connection was open and nothing more is read, the beginning of the frame follows everything that waited to be written.
         ensures sends { self.old.state ≡ Open → OnOk result (self.new.state ≡ Leaving → Sends S.contents (take most (text_frame text.now)) self.old self.new) }
+        // An open connection reads nothing more, unless its stream failed or the beginning has no room.
+        ensures leaves { self.old.state ≡ Open → OnOk result (StaysUnlessFailed Leaving self.new.state ⊎ HasNoRoom S.contents (take most (text_frame text.now)) self.old self.new) }
         // After an error the state is unchanged, unless the stream failed.
         ensures err { OnErr result (StaysUnlessFailed self.old.state self.new.state) }
     {
@@ -167,6 +169,8 @@ impl<S: Read + Write + Drop> Peer<S> {
         ensures ends { OnOk result (self.new.state ≢ Open) }
         // If the connection was open and nothing more is read, the beginning of the frame follows everything that waited to be written.
         ensures sends { self.old.state ≡ Open → OnOk result (self.new.state ≡ Leaving → Sends S.contents (take most (bytes_frame bytes.now)) self.old self.new) }
+        // An open connection reads nothing more, unless its stream failed or the beginning has no room.
+        ensures leaves { self.old.state ≡ Open → OnOk result (StaysUnlessFailed Leaving self.new.state ⊎ HasNoRoom S.contents (take most (bytes_frame bytes.now)) self.old self.new) }
         // After an error the state is unchanged, unless the stream failed.
         ensures err { OnErr result (StaysUnlessFailed self.old.state self.new.state) }
     {
@@ -185,6 +189,7 @@ impl<S: Read + Write + Drop> Peer<S> {
         ensures known { SameKnown self.old.end self.new.end }
         ensures ends { OnOk result (self.new.state ≢ Open) }
         ensures sends { OnOk result (self.new.state ≡ Leaving → Sends S.contents bytes.now self.old self.new) }
+        ensures leaves { OnOk result (StaysUnlessFailed Leaving self.new.state ⊎ HasNoRoom S.contents bytes.now self.old self.new) }
         ensures err { OnErr result (StaysUnlessFailed self.old.state self.new.state) }
     {
         self.send_raw(bytes)?;

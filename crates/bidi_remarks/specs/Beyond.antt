@@ -81,9 +81,9 @@ ends_in k ss = false
 abbrev pub is_one_of : List (List ℕ) → List ℕ → Bool
 is_one_of texts s = list_any (λ t. bytes_eq t s) texts
 
--- the name has a colon: the draft leaves such names to browsers
-abbrev pub is_own : List ℕ → Bool
-is_own s = list_any (λ b. b == 58) s
+-- the name is a vendor's: it has a colon, and the draft leaves such names to browsers
+abbrev pub is_vendor_name : List ℕ → Bool
+is_vendor_name s = list_any (λ b. b == 58) s
 
 -- the rule is one of commands or of events
 abbrev pub has_method : Option Name → Bool
@@ -92,10 +92,10 @@ has_method (Some message) = true
 has_method (Some event) = true
 has_method n = false
 
--- the text is one that only the draft takes there: one of its own, or the name of a browser's own command or event
+-- the text is one that only the draft takes there: one of its own, or a vendor's name of a command or an event
 abbrev pub is_of_draft : Option Name → List PathStep → Option (List ℕ) → Bool
 is_of_draft named steps None = false
-is_of_draft named steps (Some s) = ends_in (draft_texts named).0 steps && (is_one_of (draft_texts named).1 s || has_method named && is_own s)
+is_of_draft named steps (Some s) = ends_in (draft_texts named).0 steps && (is_one_of (draft_texts named).1 s || has_method named && is_vendor_name s)
 
 -- a text stands there that only the draft takes
 abbrev pub is_draft_text : Option Name → List PathStep → Option Node → Bool
@@ -106,14 +106,14 @@ abbrev pub is_user_context : Option Name → List PathStep → Bool
 is_user_context (Some source) steps = ends_in (codes "userContext") steps
 is_user_context named steps = false
 
--- the last step leads to a member whose name is a browser's own
-abbrev pub is_own_member : List PathStep → Bool
-is_own_member (member k ∷ ss) = is_own k
-is_own_member ss = false
+-- the last step leads to a member with a vendor's name
+abbrev pub is_vendor_member : List PathStep → Bool
+is_vendor_member (member k ∷ ss) = is_vendor_name k
+is_vendor_member ss = false
 
--- no member of this name may stand there, but in the draft it may: a source has a user context, and a browser names members of its own
+-- no member of this name may stand there, but in the draft it may: a source has a user context, and a vendor adds members
 abbrev pub is_draft_member : Option Name → List PathStep → Bool → Bool
-is_draft_member named steps wants_nothing = wants_nothing && (is_user_context named steps || is_own_member steps)
+is_draft_member named steps wants_nothing = wants_nothing && (is_user_context named steps || is_vendor_member steps)
 
 -- the draft takes any value there, of these alternatives: the profile no number with a fraction, and no more than 60 levels of nesting
 abbrev pub is_any : List (List ℕ) → Bool

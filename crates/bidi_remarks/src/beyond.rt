@@ -6,7 +6,7 @@ ghost use Rattle.bidi_rules.specs.Names.{name_of};
 ghost use Rattle.bidi_blame.specs.Said.{told_by};
 ghost use Rattle.bidi_blame.specs.View.{reason_of, step_of};
 ghost use Rattle.bidi_blame.specs.Words.{choices};
-ghost use Rattle.bidi_remarks.specs.Beyond.{draft_texts, ends_in, has_method, is_any, is_beyond, is_draft_member, is_draft_number, is_draft_text, is_odd, is_one_of, is_own, is_own_member, is_user_context};
+ghost use Rattle.bidi_remarks.specs.Beyond.{draft_texts, ends_in, has_method, is_any, is_beyond, is_draft_member, is_draft_number, is_draft_text, is_odd, is_one_of, is_vendor_name, is_vendor_member, is_user_context};
 
 use bidi_blame::{Alternatives, Name, PathStep, Reason};
 use bidi_shape::Parsed;
@@ -126,7 +126,7 @@ fn is_draft_text(named: Option<Name>, steps: &[PathStep<'_>], found: Option<&Out
         return false;
     };
     let (name, texts) = draft_texts(named);
-    ends_in(name, steps) && (is_one_of(texts, text) || has_method(named) && is_own(text))
+    ends_in(name, steps) && (is_one_of(texts, text) || has_method(named) && is_vendor_name(text))
 }
 
 // Whether the rule is one of commands or of events.
@@ -139,9 +139,9 @@ fn has_method(named: Option<Name>) -> bool
     )
 }
 
-// Whether a name has a colon: the draft leaves such names to browsers.
-fn is_own(name: &str) -> bool
-    ensures { result ≡ is_own name.now }
+// Whether a name is a vendor's: it has a colon, and the draft leaves such names to browsers.
+fn is_vendor_name(name: &str) -> bool
+    ensures { result ≡ is_vendor_name name.now }
 {
     name.as_bytes().iter().any(|byte| *byte == b':')
 }
@@ -198,7 +198,7 @@ fn is_one_of(texts: &[&str], text: &str) -> bool
 fn is_draft_member(named: Option<Name>, steps: &[PathStep<'_>], wants_nothing: bool) -> bool
     ensures { result ≡ is_draft_member (option_map name_of named) (map step_of steps.now) wants_nothing }
 {
-    wants_nothing && (is_user_context(named, steps) || is_own_member(steps))
+    wants_nothing && (is_user_context(named, steps) || is_vendor_member(steps))
 }
 
 // Whether the last step leads to the user context of a source.
@@ -211,12 +211,12 @@ fn is_user_context(named: Option<Name>, steps: &[PathStep<'_>]) -> bool
     }
 }
 
-// Whether the last step leads to a member whose name is a browser's own.
-fn is_own_member(steps: &[PathStep<'_>]) -> bool
-    ensures { result ≡ is_own_member (map step_of steps.now) }
+// Whether the last step leads to a member with a vendor's name.
+fn is_vendor_member(steps: &[PathStep<'_>]) -> bool
+    ensures { result ≡ is_vendor_member (map step_of steps.now) }
 {
     match steps {
-        [PathStep::Member(last), ..] => is_own(last),
+        [PathStep::Member(last), ..] => is_vendor_name(last),
         _ => false,
     }
 }

@@ -20,7 +20,10 @@ pub struct Recent<S> {
 
 impl<S> Recent<S> {
     /// A source over this one, of which nothing was read. Takes no memory.
-    pub fn new(alloc: Global, inner: S) -> Recent<S> {
+    pub fn new(alloc: Global, inner: S) -> Recent<S>
+        // It reads from the given source.
+        ensures { result.inner ≡ inner }
+    {
         Recent {
             inner,
             bytes: Vec::new(alloc),
