@@ -225,11 +225,6 @@ module _ (c : ℕ) (text part : List ℕ) (h : List Input) (s : ℕ) (old new : 
         (λ none. kept),
       )
 
--- the commands that are held stay, whatever names are kept
-pub held-either : (b : Bool) (script : Script) (named : List Named) → (if b then record script { named = named } else script).held ≡ script.held
-held-either true script named = refl
-held-either false script named = refl
-
 -- ---- how many ids are left
 
 pub lengths-same : (xs ys : List (List ℕ)) → length xs ≡ length ys → (length xs == length ys) ≡ true

@@ -8,7 +8,8 @@ use Rattle.bidi_scripted.specs.Kept.{NamesAsked}
 use Rattle.bidi_scripted.specs.Script.{Script, Held, without_held}
 use Rattle.bidi_scripted.specs.View.{script_of, held_of}
 use Rattle.bidi_sessions.proofs.ListLemmas.{some-same}
-use Rattle.bidi_scripted.proofs.FateLemmas.{if-ok-on}
+use Rattle.bidi_scripted.proofs.FateLemmas.{if-ok-on, on-ok}
+use Rattle.bidi_scripted.proofs.OnlyLemmas.{only-same}
 use Rattle.bidi_scripted.proofs.scripted_end.ScriptedEnd.release.Goals as goal
 
 some_none : {X : Type 0} {x : X} → Some x ≡ None → ⊥
@@ -22,6 +23,9 @@ returns-then-held-clause-lost c = λ held is lost.
     let same : held_of c.in-Some.held.now ≡ held = some-same _ _ (c.in-Some.ensures ∙ is) in
     if-ok-on c.release_lost.result (λ t p gone. (p.0 ∙ ap (λ (h : Held). Lost h.conn ∷ []) same, p.1, p.2, c.release_lost.ensures.end, gone))
     c.release_lost.ensures.lost c.release_lost.ensures.released
+
+pub returns-then-held-clause-released : goal.returns-then-held-clause-released
+returns-then-held-clause-released c = on-ok c.release_lost.result (only-same _ _) c.release_lost.ensures.released
 
 pub returns-then-held-clause-refused : goal.returns-then-held-clause-refused
 returns-then-held-clause-refused c = c.release_lost.ensures.refused _

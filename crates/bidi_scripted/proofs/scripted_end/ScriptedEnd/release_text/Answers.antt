@@ -3,7 +3,8 @@ use Rattle.bidi_sessions.specs.Step as steps
 use Rattle.bidi_remote.specs.Machine.History.{IsHeardAs}
 use Rattle.bidi_scripted.specs.Kept.{NamesAsked}
 use Rattle.bidi_scripted.specs.View.{script_of}
-use Rattle.bidi_scripted.specs.Script.{Script, without_held}
+use Rattle.bidi_scripted.specs.Script.{without_held}
+use Rattle.bidi_scripted.proofs.OnlyLemmas.{only-without}
 use Rattle.bidi_scripted.proofs.scripted_end.ScriptedEnd.release_text.Goals as goal
 
 pub returns-in-Ok-clause-handed_on : goal.returns-in-Ok-clause-handed_on
@@ -30,6 +31,4 @@ returns-in-Ok-clause-named c = λ h s some.
     )
 
 pub returns-in-Ok-clause-released : goal.returns-in-Ok-clause-released
-returns-in-Ok-clause-released c =
-    let script = script_of c.args.self.now.script in
-    ap (λ (x : Script). x.held) c.release.ensures ∙ ap (λ held. (without_held c.args.number (record script { held = held })).held) c.in-Ok.ensures.held
+returns-in-Ok-clause-released c = only-without c.args.number _ _ _ c.in-Ok.ensures.rest c.release.ensures
