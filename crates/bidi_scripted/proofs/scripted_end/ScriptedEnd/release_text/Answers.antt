@@ -4,6 +4,7 @@ use Rattle.bidi_remote.specs.Machine.History.{IsHeardAs}
 use Rattle.bidi_scripted.specs.Kept.{NamesAsked}
 use Rattle.bidi_scripted.specs.View.{script_of}
 use Rattle.bidi_scripted.specs.Script.{without_held}
+use Rattle.bidi_scripted.proofs.FateLemmas.{on-short}
 use Rattle.bidi_scripted.proofs.OnlyLemmas.{only-without}
 use Rattle.bidi_scripted.proofs.scripted_end.ScriptedEnd.release_text.Goals as goal
 
@@ -15,7 +16,7 @@ returns-in-Ok-clause-handed_on c = λ none.
       subst (λ text. IsHeardAs (steps.Text c.args.conn.value text) on.0) c.as_str.ensures.value on.1,
       on.3,
       on.2,
-      (λ h s. ((on.4 h s).0, (on.4 h s).2)),
+      (λ h s. ((on.4 h s).0, (on.4 h s).2, on-short _ _ _ _ h s it.0)),
       c.release.ensures ∙ ap (λ x. without_held c.args.number (script_of x)) it.1,
     )
 
