@@ -40,7 +40,7 @@ pub record Stays (old new : ScriptedEnd) : Type 0 where
   pub stands : (h : List Input) → StandsFor old.end h → StandsFor new.end h
   pub plays : (lines : List (List ℕ)) (text : List ℕ) → HasPlayedScript old lines text → HasPlayedScript new lines text
 
--- a text is recorded unchanged if a line can hold it, and otherwise as one with the same verdict that is the same command for rows
+-- a text is recorded unchanged if a line can hold it, and otherwise as one with the same verdict and the same command for rows
 -- example: a text of two lines is recorded with a carriage return in place of the line feed
 pub record IsSaidAs (conn : ℕ) (text said : List ℕ) : Type 0 where
   pub itself : CanBeSaid (Text conn text) → said ≡ text

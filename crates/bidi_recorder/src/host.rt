@@ -136,8 +136,7 @@ impl Host {
     /// 1. `NoMemory`: an allocation failed.
     /// 2. `WornOut`: 1,000,000,000 inputs were taken.
     pub fn heard(&mut self, conn: JsUint, text: String) -> Result<Recorded, HostFault>
-        // An Ok has the line of this text, or of one with the same verdict that is the same command for the rows of a test, and what it
-        // brings about.
+        // An Ok has the line of this text, or of one with the same verdict and the same command for rows, and what it brings about.
         ensures taken { IfOk result (λ t. (said : List ℕ) × IsSaidAs conn.value (string_bytes text) said
             × IsTaken (Plain (Text conn.value said)) self.old.end self.new.end t) }
         // After an error nothing has changed.

@@ -11,7 +11,7 @@ use Rattle.bidi_remote.specs.declared.remote_end.RemoteEnd.{RemoteEnd}
 use Rattle.bidi_names.specs.Asked.{Asked}
 use Rattle.bidi_scripted.specs.Becomes.{Becomes}
 use Rattle.bidi_scripted.specs.Fate.{Fate, HandedOn, Answered, Held, Unheld, AsksNames, fate}
-use Rattle.bidi_scripted.specs.Kept.{Taking, Hears, Refuses, Succeeds, Makes, HearsText, Takes, IsNamed, NamesAsked}
+use Rattle.bidi_scripted.specs.Kept.{Taking, Hears, Refuses, Succeeds, Makes, HearsText, Takes, IsNamed, NamesAsked, asked_in, taking}
 use Rattle.bidi_scripted.specs.Script.{Script}
 use Rattle.bidi_scripted.specs.View.{script_of}
 use Rattle.bidi_scripted.specs.declared.scripted_end.ScriptedEnd.{ScriptedEnd}
@@ -49,7 +49,9 @@ by-taking c h s asked old new script after t (Makes w scope) stands ((sent, mach
 by-session : (c : ℕ) (text : List ℕ) (h : List Input) (s : Option ℕ) (old new : RemoteEnd) (script after : Script) (t : Taken) → StandsFor old h
     → IsNamed c text h s old script new after t → GoesOn h new
 by-session c text h None old new script after t stands (hears, kept) = heard c text h new t hears
-by-session c text h (Some s) old new script after t stands (v, is, takes) = by-taking c h s _ old new script after t _ stands takes
+by-session c text h (Some s) old new script after t stands (v, is, takes) =
+    let asked = asked_in script.known text v in
+    by-taking c h s asked old new script after t (taking (deeds h) script s text asked) stands takes
 
 by-names : (c : ℕ) (text : List ℕ) (h : List Input) (old new : RemoteEnd) (script after : Script) (t : Taken) → StandsFor old h
     → NamesAsked c text h old script new after t → GoesOn h new

@@ -39,8 +39,7 @@ pub record IsHandedOn (step : Step) (old new : RemoteEnd) (result : Result Taken
   pub err : OnErr result ((h : List Input) → StandsFor old h → StandsFor new h)
   pub worn_out : (h : List Input) → StandsFor old h → IsErrOf result WornOut ↔ (most_steps ≤ length h)
 
--- The step brings about what its fate means, for a remote end and a script: this is sent, and they are so afterwards. It is handed on only
--- while the remote end accepts steps.
+-- The step brings about what its fate means, for a remote end and a script: this is sent, and they are so afterwards.
 abbrev pub Becomes : Fate → List Input → Step → RemoteEnd → Script → RemoteEnd → Script → Taken → Type 0
 Becomes HandedOn h step old script new after t =
     (i : Input) × IsHeardAs step i × (t.held ≡ None) × (t.is_of_machine ≡ true) × (map sent_of t.sent.items ≡ out h i) × StandsFor new (i ∷ h)
