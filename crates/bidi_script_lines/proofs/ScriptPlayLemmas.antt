@@ -76,20 +76,20 @@ pub script_played_more : (old new : ScriptedEnd) (lines : List (List ℕ)) (line
     → HasPlayed new.end (lines ++ line ∷ []) (text ++ bytes) × (script_of new.script ≡ no_script))
     → HasPlayedScript new (lines ++ line ∷ []) (text ++ bytes)
 script_played_more old new lines line text bytes l o p is can brings wrote next =
-  let done = in_order old new p.said p.inputs text bytes l o p.performs p.stands (brings p.inputs p.stands) wrote in
-  record {
-  said = p.said ++ l ∷ [];
-  say = ap (λ (z : List (List ℕ)). z ++ line ∷ []) p.say
-      ∙ (ap (λ (z : List ℕ). map script_line_of p.said ++ z ∷ []) is ∙ sym (map-append script_line_of p.said (l ∷ [])));
-  each = all_more CanBeWritten p.said l p.each can;
-  inputs = done.0;
-  performs = done.1;
-  stands = done.2;
-  plain = λ steps e a.
-      let r = last_line lines line steps e a in
-      let before = p.plain r.front r.lines_are r.each in
-      next r.last r.can r.line_is before.0 before.1;
-}
+    let done = in_order old new p.said p.inputs text bytes l o p.performs p.stands (brings p.inputs p.stands) wrote in
+    record {
+      said = p.said ++ l ∷ [];
+      say = ap (λ (z : List (List ℕ)). z ++ line ∷ []) p.say
+          ∙ (ap (λ (z : List ℕ). map script_line_of p.said ++ z ∷ []) is ∙ sym (map-append script_line_of p.said (l ∷ [])));
+      each = all_more CanBeWritten p.said l p.each can;
+      inputs = done.0;
+      performs = done.1;
+      stands = done.2;
+      plain = λ steps e a.
+          let r = last_line lines line steps e a in
+          let before = p.plain r.front r.lines_are r.each in
+          next r.last r.can r.line_is before.0 before.1;
+    }
 
 -- there is no line without bytes
 no_bytes : (line more : List ℕ) → [] ≡ ended line ++ more → ⊥

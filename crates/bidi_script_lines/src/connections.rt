@@ -125,7 +125,11 @@ pub(crate) fn resume(alloc: Global, end: &ScriptedEnd, conn: JsUint) -> Result<O
 }
 
 /// Ends a connection without a close frame.
-pub(crate) fn cut(alloc: Global, end: &mut ScriptedEnd, conn: JsUint) -> Result<Outcome, RemoteFault>
+pub(crate) fn cut(
+    alloc: Global,
+    end: &mut ScriptedEnd,
+    conn: JsUint,
+) -> Result<Outcome, RemoteFault>
     ensures brings { (h : List Input) → StandsFor end.old.end h → IfOk result (λ o. OnOpen conn.value h end.old end.new (outcome_of o)
         ((outcome_of o ≡ Cut conn.value) × Drops conn.value h end.old end.new)) }
     ensures err { OnErr result (StandsAsBefore end.old end.new) }

@@ -16,7 +16,11 @@ use bidi_tree::JsUint;
 use std::alloc::Global;
 
 /// Adds a row that answers.
-pub(crate) fn answer(alloc: Global, end: &mut ScriptedEnd, row: &str) -> Result<Outcome, RemoteFault>
+pub(crate) fn answer(
+    alloc: Global,
+    end: &mut ScriptedEnd,
+    row: &str,
+) -> Result<Outcome, RemoteFault>
     ensures brings { (h : List Input) → IfOk result (λ o. Brings (lines.Answer row.now) h end.old end.new (outcome_of o)) }
     ensures err { OnErr result (IsUnchanged end.old end.new) }
     ensures worn_out { IsErrOf result RemoteFault.WornOut → ⊥ }
@@ -40,7 +44,11 @@ pub(crate) fn hold(alloc: Global, end: &mut ScriptedEnd, row: &str) -> Result<Ou
 }
 
 /// Removes the rows of a method.
-pub(crate) fn unanswer(alloc: Global, end: &mut ScriptedEnd, method: &str) -> Result<Outcome, RemoteFault>
+pub(crate) fn unanswer(
+    alloc: Global,
+    end: &mut ScriptedEnd,
+    method: &str,
+) -> Result<Outcome, RemoteFault>
     ensures brings { (h : List Input) → IfOk result (λ o. Brings (lines.Unanswer method.now) h end.old end.new (outcome_of o)) }
     ensures err { OnErr result (IsUnchanged end.old end.new) }
     ensures worn_out { IsErrOf result RemoteFault.WornOut → ⊥ }
@@ -52,7 +60,11 @@ pub(crate) fn unanswer(alloc: Global, end: &mut ScriptedEnd, method: &str) -> Re
 }
 
 /// Hands a held command on.
-pub(crate) fn release(alloc: Global, end: &mut ScriptedEnd, number: JsUint) -> Result<Outcome, RemoteFault>
+pub(crate) fn release(
+    alloc: Global,
+    end: &mut ScriptedEnd,
+    number: JsUint,
+) -> Result<Outcome, RemoteFault>
     ensures brings { (h : List Input) → StandsFor end.old.end h → IfOk result (λ o. Brings (lines.Release number.value) h end.old end.new (outcome_of o)) }
     ensures err { OnErr result (StandsAsBefore end.old end.new) }
     ensures worn_out { (h : List Input) → StandsFor end.old.end h → IsErrOf result RemoteFault.WornOut → most_steps ≤ length h }
@@ -110,7 +122,11 @@ pub(crate) fn follow(
 }
 
 /// Makes names known.
-pub(crate) fn know(alloc: Global, end: &mut ScriptedEnd, names: &str) -> Result<Outcome, RemoteFault>
+pub(crate) fn know(
+    alloc: Global,
+    end: &mut ScriptedEnd,
+    names: &str,
+) -> Result<Outcome, RemoteFault>
     ensures brings { (h : List Input) → IfOk result (λ o. Brings (lines.Names names.now) h end.old end.new (outcome_of o)) }
     ensures err { OnErr result (IsUnchanged end.old end.new) }
     ensures worn_out { IsErrOf result RemoteFault.WornOut → ⊥ }
