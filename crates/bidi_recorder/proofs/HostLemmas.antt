@@ -13,12 +13,14 @@ use Rattle.bidi_play.specs.Players.{HasPlayed}
 use Rattle.bidi_scripted.specs.Script.{no_script}
 use Rattle.bidi_scripted.specs.View.{script_of}
 use Rattle.bidi_scripted.specs.declared.scripted_end.ScriptedEnd.{ScriptedEnd}
+use Rattle.bidi_script_lines.specs.InOrder.{Performs}
 use Rattle.bidi_script_lines.specs.Outcomes.{outcome_of, outcome_text}
 use Rattle.bidi_script_lines.specs.Performing.{Brings, StandsAsBefore, TakesStep}
 use Rattle.bidi_script_lines.specs.ScriptLines.{Line, Plain, Answer, Hold, Release, ReleaseWith, Unanswer, Emit, On, Names, Send, Bytes, Raw, Stall, Resume, Cut, CutAfter, Close, Refuse, is_plain, script_line_of, IsWritable, CanBeWritten}
 use Rattle.bidi_script_lines.specs.ScriptPlayers.{HasPlayedScript}
 use Rattle.bidi_script_lines.proofs.PlainLemmas.{performed_more}
 use Rattle.bidi_recorder.specs.declared.host.Recorded.{Recorded}
+use Rattle.bidi_recorder.specs.RowCommands.{command_for_rows}
 use Rattle.bidi_recorder.specs.PageLines.{is_said_by_pages}
 use Rattle.bidi_recorder.specs.Hosting.{IsTaken, Stays, IsSaidAs}
 use Rattle.bidi_recorder.proofs.LineLemmas.{one_line, short}
@@ -49,6 +51,9 @@ stays old new (script, same) = record {
     said = p.said;
     say = p.say;
     each = p.each;
+    inputs = p.inputs;
+    performs = subst (λ s. Performs p.said p.inputs s text) (sym script) p.performs;
+    stands = same p.inputs p.stands;
     plain = λ steps e all. let before = p.plain steps e all in (still_played old.end new.end lines text same before.0, script ∙ before.1);
   };
 }
@@ -74,18 +79,19 @@ line_taken l old new t is can plain takes brings = record {
       (taken.1, (ok.0, ok.1, λ h s. ((ok.2 h s).0, (ok.2 h s).2)));
   plays = λ lines text p.
       performed_more old new lines (string_bytes t.line) text (outcome_text (script_of new.script) (outcome_of t.outcome)) l t.outcome p
-      (record { says = is; can = can; plain = plain }) takes refl;
+      (record { says = is; can = can; plain = plain }) brings takes refl;
 }
 
 -- ---- texts that a line can hold
 
 -- a text that a line can hold is recorded as itself
 pub said_itself : (c : ℕ) (text : List ℕ) → IsSaidAs c text text
-said_itself c text = record { itself = λ can. refl; verdict = λ v is. is }
+said_itself c text = record { itself = λ can. refl; verdict = λ v is. is; command = refl }
 
--- one that no line can hold is recorded as any text with its verdict
-pub said_otherwise : (c : ℕ) (text said : List ℕ) → (CanBeSaid (Text c text) → ⊥) → ((v : Verdict) → IsVerdict text v → IsVerdict said v) → IsSaidAs c text said
-said_otherwise c text said not same = record { itself = λ can. absurd (not can); verdict = same }
+-- one that no line can hold is recorded as any text with its verdict that is its command for rows
+pub said_otherwise : (c : ℕ) (text said : List ℕ) → (CanBeSaid (Text c text) → ⊥) → ((v : Verdict) → IsVerdict text v → IsVerdict said v)
+    → command_for_rows said ≡ command_for_rows text → IsSaidAs c text said
+said_otherwise c text said not same command = record { itself = λ can. absurd (not can); verdict = same; command = command }
 
 -- a line whose fields fit can be written
 pub written_line : (l : Line) (line : List ℕ) → line ≡ script_line_of l → IsWritable l → IsUtf8 line → IsLine line → CanBeWritten l

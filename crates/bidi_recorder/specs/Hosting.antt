@@ -13,6 +13,7 @@ use Rattle.bidi_script_lines.specs.Outcomes.{outcome_of, outcome_text}
 use Rattle.bidi_script_lines.specs.Performing.{Brings}
 use Rattle.bidi_script_lines.specs.ScriptLines.{Line, Plain, script_line_of, CanBeWritten}
 use Rattle.bidi_script_lines.specs.ScriptPlayers.{HasPlayedScript}
+use Rattle.bidi_recorder.specs.RowCommands.{command_for_rows}
 use Rattle.bidi_recorder.specs.PageLines.{is_said_by_pages}
 use Rattle.bidi_recorder.specs.declared.host.Recorded.{Recorded}
 
@@ -39,11 +40,12 @@ pub record Stays (old new : ScriptedEnd) : Type 0 where
   pub stands : (h : List Input) → StandsFor old.end h → StandsFor new.end h
   pub plays : (lines : List (List ℕ)) (text : List ℕ) → HasPlayedScript old lines text → HasPlayedScript new lines text
 
--- a text is recorded unchanged if a line can hold it, and otherwise as one with the same verdict
+-- a text is recorded unchanged if a line can hold it, and otherwise as one with the same verdict and the same command for rows
 -- example: a text of two lines is recorded with a carriage return in place of the line feed
 pub record IsSaidAs (conn : ℕ) (text said : List ℕ) : Type 0 where
   pub itself : CanBeSaid (Text conn text) → said ≡ text
   pub verdict : (v : Verdict) → IsVerdict text v → IsVerdict said v
+  pub command : command_for_rows said ≡ command_for_rows text
 
 -- the line is not one that a page may say
 abbrev pub SaysNoPageLine : List ℕ → Type 0

@@ -128,7 +128,7 @@ impl Host {
     /// Takes a text that came in on a connection.
     ///
     /// If no line can hold the text, because it has a line feed or is too long, a text with the same verdict
-    /// is taken instead: the text with a carriage return in place of each line feed, or `{` if it is longer
+    /// and the same command for rows is taken instead: the text with a carriage return in place of each line feed, or `{` if it is longer
     /// than a command may be. Copies the text once, and such a text twice more.
     ///
     /// # Errors
@@ -136,7 +136,7 @@ impl Host {
     /// 1. `NoMemory`: an allocation failed.
     /// 2. `WornOut`: 1,000,000,000 inputs were taken.
     pub fn heard(&mut self, conn: JsUint, text: String) -> Result<Recorded, HostFault>
-        // An Ok has the line of this text, or of one with the same verdict, and what it brings about.
+        // An Ok has the line of this text, or of one with the same verdict and the same command for rows, and what it brings about.
         ensures taken { IfOk result (λ t. (said : List ℕ) × IsSaidAs conn.value (string_bytes text) said
             × IsTaken (Plain (Text conn.value said)) self.old.end self.new.end t) }
         // After an error nothing has changed.

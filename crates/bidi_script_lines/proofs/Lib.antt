@@ -3,3 +3,4 @@ pub mod ScriptPlayLemmas
 pub mod PlainLemmas
 pub mod PerformLemmas
 pub mod StepLemmas
+pub mod ContinueLemmas

@@ -1,10 +1,13 @@
 -- A line of a play in a scripted play.
-use Rattle.std.proofs.Common.{◌≡◌, ℕ, true, false, true≢false, List, [], ◌∷◌, ◌++◌, length, reverse, arith, Option, Some, None, Ok, refl, sym, ◌∙◌, ap, subst}
+use Rattle.std.proofs.Common.{◌≡◌, ◌≤◌, ℕ, true, false, true≢false, List, [], ◌∷◌, ◌++◌, length, reverse, arith, Option, Some, None, Ok, refl, sym, ◌∙◌, ap, subst}
 use Rattle.std.specs.Prelude.{IsSomeAnd, IfSome, IfNone, MatchOption}
 use Rattle.std.proofs.Math.Nat.{lt_of_not-le}
 use Rattle.std.proofs.lemmas.List.{length-reverse}
+use Rattle.bidi_sessions.specs.Limits.{most_steps}
 use Rattle.bidi_sessions.specs.Step.{Step}
 use Rattle.bidi_lines.proofs.ResultLemmas.{err_not_ok}
+use Rattle.bidi_remote.specs.Machine.History.{Input}
+use Rattle.bidi_remote.specs.State.Stands.{StandsFor}
 use Rattle.bidi_remote.proofs.HeardLemmas.{length-heard}
 use Rattle.bidi_play.specs.Lines.{line_of, CanBeSaid}
 use Rattle.bidi_play.specs.Players.{HasPlayed}
@@ -13,12 +16,14 @@ use Rattle.bidi_scripted.specs.Script.{no_script}
 use Rattle.bidi_scripted.specs.View.{script_of}
 use Rattle.bidi_scripted.specs.declared.scripted_end.ScriptedEnd.{ScriptedEnd}
 use Rattle.bidi_script_lines.specs.Outcomes.{outcome_of, outcome_text}
-use Rattle.bidi_script_lines.specs.Performing.{TakesStep}
+use Rattle.bidi_script_lines.specs.Performing.{Brings, TakesStep}
 use Rattle.bidi_script_lines.specs.ScriptLines.{Line, Plain, is_plain, script_line_of, CanBeWritten}
 use Rattle.bidi_script_lines.specs.ScriptPlayers.{HasPlayedScript, IsSaid, SaysNoLine}
 use Rattle.bidi_script_lines.specs.View.{said_by}
 use Rattle.bidi_script_lines.specs.declared.script_line.ScriptLine.{ScriptLine}
 use Rattle.bidi_script_lines.specs.declared.outcome.Outcome as declared
+use Rattle.bidi_script_lines.specs.InOrder.{IsSpent}
+use Rattle.bidi_script_lines.proofs.ContinueLemmas.{few}
 use Rattle.bidi_script_lines.proofs.ScriptPlayLemmas.{script_played_more}
 
 -- what holds of what there is
@@ -62,13 +67,32 @@ plain_more old new o lines line text bytes s takes can says wrote p =
 
 -- a line more that is performed
 pub performed_more : (old new : ScriptedEnd) (lines : List (List ℕ)) (line text bytes : List ℕ) (l : Line) (o : declared.Outcome) → HasPlayedScript old lines text
-    → IsSaid line l → ((s : Step) → l ≡ Plain s → script_of old.script ≡ no_script → TakesStep s old new (Ok o) × (script_of new.script ≡ no_script))
+    → IsSaid line l → ((h : List Input) → StandsFor old.end h → Brings l h old new (outcome_of o))
+    → ((s : Step) → l ≡ Plain s → script_of old.script ≡ no_script → TakesStep s old new (Ok o) × (script_of new.script ≡ no_script))
     → bytes ≡ outcome_text (script_of new.script) (outcome_of o) → HasPlayedScript new (lines ++ line ∷ []) (text ++ bytes)
-performed_more old new lines line text bytes l o p is takes wrote =
-    script_played_more old new lines line text bytes l p is.says is.can (λ s said says played empty.
+performed_more old new lines line text bytes l o p is brings takes wrote =
+    script_played_more old new lines line text bytes l (outcome_of o) p is.says is.can brings wrote (λ s said says played empty.
     let (t, same) = plain_step l (is.plain s said says) in
     let taken = takes t same empty in (
       plain_more old new o lines line text bytes t taken.0 (plain_said t (subst CanBeWritten same is.can)) (is.says ∙ ap script_line_of same)
           (wrote ∙ ap (λ z. outcome_text z (outcome_of o)) taken.1) played,
       taken.1,
     ))
+
+-- ---- the remote end accepts no more inputs
+
+-- lines after which it has accepted as many as it can
+pub spent : (end : ScriptedEnd) (lines : List (List ℕ)) (text : List ℕ) → HasPlayedScript end lines text
+    → ((h : List Input) → StandsFor end.end h → most_steps ≤ length h) → IsSpent lines
+spent end lines text p worn =
+    let most = few p.performs in
+    let least = worn p.inputs p.stands in
+    record {
+      said = p.said;
+      say = p.say;
+      inputs = p.inputs;
+      script = script_of end.script;
+      text = text;
+      performs = p.performs;
+      all = omega (arith, most, least);
+    }

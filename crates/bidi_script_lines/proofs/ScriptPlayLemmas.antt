@@ -1,8 +1,9 @@
 -- Playing one more line of a scripted play, and stopping.
-use Rattle.std.proofs.Common.{◌≡◌, ℕ, ◌-◌, ◌^◌, Bool, List, [], ◌∷◌, ◌++◌, length, map, append-nil, append_assoc, arith, refl, sym, ◌∙◌, ap, ap₂, subst}
+use Rattle.std.proofs.Common.{◌≡◌, ◌⊎◌, inl, inr, ℕ, ◌-◌, ◌^◌, Bool, List, [], ◌∷◌, ◌++◌, length, map, append-nil, append_assoc, arith, refl, sym, ◌∙◌, ap, ap₂, subst}
 use Rattle.std.specs.List.{AllByRecursion}
 use Rattle.std.proofs.lemmas.List.{map-append}
 use Rattle.bidi_sessions.specs.Step.{Step}
+use Rattle.bidi_remote.specs.Machine.History.{Input}
 use Rattle.bidi_remote.specs.State.Stands.{StandsFor}
 use Rattle.bidi_lines.specs.Feeds.{ended}
 use Rattle.bidi_lines.specs.InputLines.{joined, IsLine}
@@ -20,10 +21,14 @@ use Rattle.bidi_play.proofs.PlayLemmas.{plays_all}
 use Rattle.bidi_scripted.specs.Script.{no_script}
 use Rattle.bidi_scripted.specs.View.{script_of}
 use Rattle.bidi_scripted.specs.declared.scripted_end.ScriptedEnd.{ScriptedEnd}
+use Rattle.bidi_script_lines.specs.InOrder.{Performs, nothing, one_more}
+use Rattle.bidi_script_lines.specs.Outcomes.{Outcome, outcome_text}
+use Rattle.bidi_script_lines.specs.Performing.{Brings}
 use Rattle.bidi_script_lines.specs.ScriptLines.{Line, script_line_of, CanBeWritten}
 use Rattle.bidi_script_lines.specs.ScriptPlayers.{HasPlayedScript, script_player_answers}
 use Rattle.bidi_script_lines.specs.ScriptedPlays.{script_said, ScriptedPlaysAll, script_run}
 use Rattle.bidi_script_lines.specs.declared.scripted_play.ScriptPlayer.{ScriptPlayer}
+use Rattle.bidi_script_lines.proofs.ContinueLemmas.{goes-on}
 
 -- if lines and one more are those of steps, the lines are those of the steps before the last
 pub record IsLast (lines : List (List ℕ)) (line : List ℕ) : Type 0 where
@@ -51,22 +56,40 @@ last_line (l ∷ lines) line (s ∷ steps) e a =
       can = r.can;
     }
 
+-- a line more that is performed in order
+pub in_order : (old new : ScriptedEnd) (said : List Line) (h : List Input) (text bytes : List ℕ) (l : Line) (o : Outcome)
+    → Performs said h (script_of old.script) text → StandsFor old.end h → Brings l h old new o → bytes ≡ outcome_text (script_of new.script) o
+    → (after : List Input) × Performs (said ++ l ∷ []) after (script_of new.script) (text ++ bytes) × StandsFor new.end after
+in_order old new said h text bytes l o p stands brings wrote =
+    let (after, continues, ends) = goes-on h old new stands l o brings in (
+      after,
+      subst (λ (z : List ℕ). Performs (said ++ l ∷ []) after (script_of new.script) (text ++ z)) (sym wrote)
+          (one_more said h after old new text l o p stands brings continues ends),
+      ends,
+    )
+
 -- a line more that is played
-pub script_played_more : (old new : ScriptedEnd) (lines : List (List ℕ)) (line text bytes : List ℕ) (l : Line) → HasPlayedScript old lines text
+pub script_played_more : (old new : ScriptedEnd) (lines : List (List ℕ)) (line text bytes : List ℕ) (l : Line) (o : Outcome) → HasPlayedScript old lines text
     → line ≡ script_line_of l → CanBeWritten l
+    → ((h : List Input) → StandsFor old.end h → Brings l h old new o) → bytes ≡ outcome_text (script_of new.script) o
     → ((s : Step) → CanBeSaid s → line ≡ line_of s → HasPlayed old.end lines text → script_of old.script ≡ no_script
     → HasPlayed new.end (lines ++ line ∷ []) (text ++ bytes) × (script_of new.script ≡ no_script))
     → HasPlayedScript new (lines ++ line ∷ []) (text ++ bytes)
-script_played_more old new lines line text bytes l p is can next = record {
-  said = p.said ++ l ∷ [];
-  say = ap (λ (z : List (List ℕ)). z ++ line ∷ []) p.say
-      ∙ (ap (λ (z : List ℕ). map script_line_of p.said ++ z ∷ []) is ∙ sym (map-append script_line_of p.said (l ∷ [])));
-  each = all_more CanBeWritten p.said l p.each can;
-  plain = λ steps e a.
-      let r = last_line lines line steps e a in
-      let before = p.plain r.front r.lines_are r.each in
-      next r.last r.can r.line_is before.0 before.1;
-}
+script_played_more old new lines line text bytes l o p is can brings wrote next =
+    let done = in_order old new p.said p.inputs text bytes l o p.performs p.stands (brings p.inputs p.stands) wrote in
+    record {
+      said = p.said ++ l ∷ [];
+      say = ap (λ (z : List (List ℕ)). z ++ line ∷ []) p.say
+          ∙ (ap (λ (z : List ℕ). map script_line_of p.said ++ z ∷ []) is ∙ sym (map-append script_line_of p.said (l ∷ [])));
+      each = all_more CanBeWritten p.said l p.each can;
+      inputs = done.0;
+      performs = done.1;
+      stands = done.2;
+      plain = λ steps e a.
+          let r = last_line lines line steps e a in
+          let before = p.plain r.front r.lines_are r.each in
+          next r.last r.can r.line_is before.0 before.1;
+    }
 
 -- there is no line without bytes
 no_bytes : (line more : List ℕ) → [] ≡ ended line ++ more → ⊥
@@ -103,6 +126,7 @@ scripted_plays end lines text p = record {
   lines = p.said;
   are = ap joined p.say ∙ script_said-joined p.said;
   each = p.each;
+  written = (p.inputs, script_of end.script, p.performs);
   plain = λ play.
       let (steps, is, each) = play in
       let all = are_lines lines p.said p.say p.each in
@@ -128,7 +152,7 @@ plays_so first most full = record {
   is_next = λ at_end line bytes next. next;
   refuses = λ at_end bytes bad. bad;
   answers = λ lines text done. scripted_plays done.0.end lines text done.1;
-  is_worn_out = λ lines rest worn. goes_on worn.1.0 rest worn.1.1;
+  is_worn_out = λ lines rest (few, line, first, says, spent). (goes_on line rest first, inl spent);
   few = λ lines text done few. omega (arith, few, full);
   all = λ lines text done all. all ∙ full;
 }
@@ -139,7 +163,7 @@ pub script_stop : (first : ScriptPlayer) (f : LinesFault) (most : ℕ) (at_end :
 script_stop first fault.Read most at_end read wrote full stops = stops_as _ _ (plays_so first most full) fault.Read at_end read wrote stops
 script_stop first (fault.BadLine n) most at_end read wrote full stops = stops_as _ _ (plays_so first most full) (fault.BadLine n) at_end read wrote stops
 script_stop first fault.TooManyLines most at_end read wrote full (lines, rest, b, (t, p), few, (all, more)) =
-    (lines, rest, record { front = b.front; each = b.each }, scripted_plays t.end lines wrote p, omega (arith, few, full), more)
+    (lines, rest, record { front = b.front; each = b.each }, scripted_plays t.end lines wrote p, omega (arith, few, full), (more, inr (all ∙ full)))
 script_stop first fault.WornOut most at_end read wrote full stops = stops_as _ _ (plays_so first most full) fault.WornOut at_end read wrote stops
 script_stop first fault.NoMemory most at_end read wrote full stops = stops_as _ _ (plays_so first most full) fault.NoMemory at_end read wrote stops
 script_stop first fault.Write most at_end read wrote full stops = stops_as _ _ (plays_so first most full) fault.Write at_end read wrote stops
@@ -150,6 +174,9 @@ nothing_played end stands empty = record {
   said = [];
   say = refl;
   each = tt;
+  inputs = [];
+  performs = subst (λ s. Performs [] [] s []) (sym empty) nothing;
+  stands = stands;
   plain = λ steps e a. (
     record { steps = []; say = refl; each = tt; inputs = []; heard = tt; answer = refl; reads_back = tt; stands = stands; few = omega arith },
     empty,
@@ -162,5 +189,6 @@ nothing_said = record {
   lines = [];
   are = refl;
   each = tt;
+  written = ([], no_script, nothing);
   plain = λ play. ([], record { lines = refl; each = tt; inputs = []; heard = tt; answer = refl; reads_back = tt });
 }

@@ -9,7 +9,7 @@ use Rattle.bidi_remote.specs.Machine.Connections.{is_open}
 use Rattle.bidi_remote.specs.Machine.Outcome.{deeds}
 use Rattle.bidi_remote.specs.Machine.Messages.{AllReadBack}
 use Rattle.bidi_remote.specs.Machine.Sent.{out, Text, Lost}
-use Rattle.bidi_remote.specs.State.Stands.{StandsFor}
+use Rattle.bidi_remote.specs.State.Stands.{StandsFor, IsShort}
 use Rattle.bidi_remote.specs.declared.remote_end.RemoteFault.{RemoteFault}
 use Rattle.bidi_remote.specs.declared.remote_end.RemoteFault.TheVariants.{WornOut}
 use Rattle.bidi_rows.specs.Filling.{Template}
@@ -19,7 +19,7 @@ use Rattle.bidi_rows.specs.Templates.{AreTemplateTexts}
 use Rattle.bidi_sessions.specs.Step as steps
 use Rattle.bidi_scripted.specs.Script as script
 use Rattle.bidi_names.specs.Names.{words, can_be_known}
-use Rattle.bidi_scripted.specs.Script.{Script, no_script, has_room_for_row, has_room_for_follower, has_room_for_names, has_method, held_by, without_held, without_method, with_follower, with_names, with_row}
+use Rattle.bidi_scripted.specs.Script.{Script, OnlySubscriptionsChange, no_script, has_room_for_row, has_room_for_follower, has_room_for_names, has_method, held_by, without_held, without_method, with_follower, with_names, with_row}
 use Rattle.bidi_scripted.specs.Sending.{emitted, release_sent}
 use Rattle.bidi_scripted.specs.View.{script_of}
 use Rattle.bidi_scripted.specs.Becomes.{Becomes}
@@ -96,24 +96,28 @@ can_refuse n status = nat_le n most_refused && (nat_le 400 status && nat_le stat
 abbrev pub OnOpen : ℕ → List Input → ScriptedEnd → ScriptedEnd → Outcome → Type 0 → Type 0
 OnOpen c h old new o P = ((is_open (deeds h) c ≡ false) × HasNoEffect old new o) ⊎ ((is_open (deeds h) c ≡ true) × P)
 
+-- the remote end has dropped the connection, and the script is as it was
+abbrev pub Drops : ℕ → List Input → ScriptedEnd → ScriptedEnd → Type 0
+Drops c h old new = StandsFor new.end (Drop c ∷ h) × (script_of new.script ≡ script_of old.script) × IsShort h
+
 -- the outcome of what a scripted end took: a command that is held, or what the remote end or the test sends
 abbrev pub taken_outcome : Taken → Outcome
 taken_outcome t = option_map_or Held t.held (if t.is_of_machine then OfMachine (map sent_of t.sent.items) else OfTest (map sent_of t.sent.items))
 
 -- The held command of this number is released: if its connection is gone it is lost, and otherwise it goes on as it came, or, while names are
--- known, as a message that may ask for them. It is held no longer, and nothing else of the script changes but what comes of names.
+-- known, as a message that may ask for them. It is held no longer, and nothing else of the script changes but the subscriptions to names.
 pub record Releases (n : ℕ) (h : List Input) (old new : ScriptedEnd) (o : Outcome) : Type 0 where
   pub held : script.Held
   pub was_held : held_by n (script_of old.script) ≡ Some held
   pub lost : held.is_lost ≡ true
       → (o ≡ OfTest (Lost held.conn ∷ [])) × (new.end ≡ old.end) × (script_of new.script ≡ without_held n (script_of old.script))
   pub goes_on : held.is_lost ≡ false → (script_of old.script).known ≡ []
-      → (i : Input) × IsHeardAs (steps.Text held.conn held.text) i × (o ≡ OfMachine (out h i)) × StandsFor new.end (i ∷ h)
+      → (i : Input) × IsHeardAs (steps.Text held.conn held.text) i × (o ≡ OfMachine (out h i)) × StandsFor new.end (i ∷ h) × IsShort h
       × (script_of new.script ≡ without_held n (script_of old.script))
   pub named : held.is_lost ≡ false → (script_of old.script).known ≢ []
-      → (t : Taken) × (mid : Script) × NamesAsked held.conn held.text h old.end (script_of old.script) new.end mid t × (o ≡ taken_outcome t)
+      → (t : Taken) × (t.held ≡ None) × (mid : Script) × NamesAsked held.conn held.text h old.end (script_of old.script) new.end mid t × (o ≡ taken_outcome t)
       × (script_of new.script ≡ without_held n mid)
-  pub released : (script_of new.script).held ≡ (without_held n (script_of old.script)).held
+  pub released : OnlySubscriptionsChange (without_held n (script_of old.script)) (script_of new.script)
 
 -- The held command of this number is answered by this text, or it is lost. It is held no longer.
 pub record ReleasesWith (n : ℕ) (text : List ℕ) (h : List Input) (old new : ScriptedEnd) (o : Outcome) : Type 0 where
@@ -173,13 +177,13 @@ Brings (line.Stall c) h old new o = OnOpen c h old new o ((o ≡ Stalled c) × I
 -- a connection is read again
 Brings (line.Resume c) h old new o = OnOpen c h old new o ((o ≡ Resumed c) × IsUnchanged old new)
 -- a connection is dropped without a close frame
-Brings (line.Cut c) h old new o = OnOpen c h old new o ((o ≡ Cut c) × StandsFor new.end (Drop c ∷ h))
+Brings (line.Cut c) h old new o = OnOpen c h old new o ((o ≡ Cut c) × Drops c h old new)
 -- a connection will be cut in its next message
 Brings (line.CutAfter c bytes) h old new o = OnOpen c h old new o ((o ≡ CutAfter c bytes) × IsUnchanged old new)
 -- a connection is closed with a code, and dropped
 Brings (line.Close c code) h old new o =
     OnOpen c h old new o (((is_close_code code ≡ false) × HasNoEffect old new o)
-    ⊎ ((is_close_code code ≡ true) × (o ≡ Closed c code) × StandsFor new.end (Drop c ∷ h)))
+    ⊎ ((is_close_code code ≡ true) × (o ≡ Closed c code) × Drops c h old new))
 -- handshakes are refused
 Brings (line.Refuse n code) h old new o = ((can_refuse n code ≡ false) × HasNoEffect old new o)
     ⊎ ((can_refuse n code ≡ true) × (o ≡ Refusing n code) × IsUnchanged old new)

@@ -28,10 +28,14 @@
 //! A line that has no effect is answered by `no effect: REASON`. A play stops at the first fault, [`PlayFault`](bidi_play::PlayFault).
 #![tactic(auto)]
 
+mod connections;
 mod outcome;
 mod performing;
+mod reasons;
+mod rows;
 mod script_line;
 mod scripted_play;
+mod steps;
 
 pub use outcome::{Outcome, held_line, outcome_lines, with_followers};
 pub use performing::perform;

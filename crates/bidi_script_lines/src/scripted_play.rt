@@ -1,19 +1,23 @@
 //! Scripted plays: lines in, lines of what is sent out.
-ghost use Rattle.std.specs.Prelude.{◌≡◌, ◌+◌, false, IfOk, IfErr, IsErrOf, OnOk, IsTrue, MatchOption, MatchResult};
+ghost use Rattle.std.specs.Prelude.{◌≡◌, ◌+◌, ◌≤◌, List, length, false, IfOk, IfErr, IsErrOf, OnOk, IsTrue, MatchOption, MatchResult};
 ghost use Rattle.std.specs.Io.KnownBytes.{IsAtEnd};
 ghost use Rattle.bidi_lines.specs.Devices.{Moves};
 ghost use Rattle.bidi_lines.specs.Feeds.{has_feed};
 ghost use Rattle.bidi_lines.specs.Stops.{StopsAt, failed_reads, failed_writes};
 ghost use Rattle.bidi_play.specs.Plays.{lines_fault};
 ghost use Rattle.bidi_play.specs.Lines.{CanBeSaid, line_of};
+ghost use Rattle.bidi_remote.specs.Machine.History.{Input};
+ghost use Rattle.bidi_remote.specs.State.Stands.{StandsFor};
+ghost use Rattle.bidi_sessions.specs.Limits.{most_steps};
 ghost use Rattle.bidi_sessions.specs.Step.{Text as Hearing};
 ghost use Rattle.bidi_script_lines.specs.View.{said_by};
 ghost use Rattle.bidi_script_lines.specs.ScriptPlayers.{IsPerformed, IsSaid, SaysALine, SaysNoLine, script_player_answers};
 ghost use Rattle.bidi_script_lines.specs.ScriptedPlays.{ScriptedPlaysAll, script_run};
 
 use crate::outcome::{Outcome, outcome_lines};
-use crate::performing::{hear, perform};
+use crate::performing::perform;
 use crate::script_line::{ScriptLine, read_script_line};
+use crate::steps::hear;
 use bidi_lines::{AnswerFault, Answerer, Sink, Source, answer_lines};
 use bidi_play::{PlayFault, heard_text};
 use bidi_remote::RemoteFault;
@@ -31,14 +35,14 @@ use std::alloc::Global;
 /// 2. `Write`: a write of the sink failed.
 /// 3. `BadLine`: a line is not one of a scripted play.
 /// 4. `NoMemory`: an allocation failed.
-/// 5. `WornOut`: a line that is a step comes after 1,000,000,000 others.
+/// 5. `WornOut`: a line needs the remote end after 1,000,000,000 steps of it.
 pub fn play_scripted<R: Source, W: Sink>(
     alloc: Global,
     source: &mut R,
     sink: &mut W,
 ) -> Result<(), PlayFault>
-    // After an Ok, the source gave lines of a scripted play only, and the whole text for them was written. If they are lines of a play, it
-    // is the text that `play` writes.
+    // After an Ok, the source gave lines of a scripted play only, and what they bring about was written, one after another. If they are lines
+    // of a play, it is the text that `play` writes.
     ensures ok { OnOk result (Moves (R.left source.old) (R.left source.new) (W.contents sink.old) (W.contents sink.new) ScriptedPlaysAll) }
     // After an Ok, the source has ended, and none of its bytes is left.
     ensures end { OnOk result (IsTrue (R.has_ended source.new) × IsAtEnd (R.left source.new)) }
@@ -94,6 +98,7 @@ fn take_line(
     requires { has_feed line.now ≡ false }
     ensures ok { IfOk result (λ found. MatchOption found (SaysNoLine line.now) (λ o. IsPerformed line.now end.old end.new o)) }
     ensures says { IsErrOf result RemoteFault.WornOut → SaysALine line.now }
+    ensures worn_out { (h : List Input) → StandsFor end.old.end h → IsErrOf result RemoteFault.WornOut → most_steps ≤ length h }
 {
     if let Some((conn, text)) = heard_text(line) {
         return take_heard(end, line, conn, text);
@@ -112,6 +117,7 @@ fn take_heard(
     requires { CanBeSaid (Hearing conn.value text.now) × (line.now ≡ line_of (Hearing conn.value text.now)) }
     ensures ok { IfOk result (λ found. MatchOption found (SaysNoLine line.now) (λ o. IsPerformed line.now end.old end.new o)) }
     ensures says { IsErrOf result RemoteFault.WornOut → SaysALine line.now }
+    ensures worn_out { (h : List Input) → StandsFor end.old.end h → IsErrOf result RemoteFault.WornOut → most_steps ≤ length h }
 {
     match hear(end, conn, text) {
         Ok(outcome) => Ok(Some(outcome)),
@@ -129,6 +135,7 @@ fn take_said(
     requires { MatchOption said (SaysNoLine line.now) (λ l. IsSaid line.now (said_by l)) }
     ensures ok { IfOk result (λ found. MatchOption found (SaysNoLine line.now) (λ o. IsPerformed line.now end.old end.new o)) }
     ensures says { IsErrOf result RemoteFault.WornOut → SaysALine line.now }
+    ensures worn_out { (h : List Input) → StandsFor end.old.end h → IsErrOf result RemoteFault.WornOut → most_steps ≤ length h }
 {
     let Some(said) = said else {
         return Ok(None);

@@ -3,13 +3,14 @@ use Rattle.std.proofs.Common.{◌≡◌, ◌∙◌, ◌≤◌, ℕ, Bool, true, 
 use Rattle.std.specs.Prelude.{◌==◌, find, if◌then◌else◌, IfOk, OnOk, OnErr, IsErrOf, ◌↔◌, unwrap_or}
 use Rattle.std.specs.List.{position}
 use Rattle.std.proofs.lemmas.Bool.Decides.{nat_tests}
+use Rattle.std.proofs.Math.Nat.{lt_of_not-le}
 use Rattle.bidi_rows.specs.Command.{Command, command_of}
 use Rattle.bidi_rows.specs.Rows.{Row, Answer, Action, Answers, Holds, matches}
 use Rattle.bidi_remote.specs.Machine.History.{Input, Deed}
 use Rattle.bidi_remote.specs.Machine.Connections.{is_open}
 use Rattle.bidi_remote.specs.Machine.Outcome.{deeds}
 use Rattle.bidi_remote.specs.Machine.Sent.{Sent, Text}
-use Rattle.bidi_remote.specs.State.Stands.{StandsFor}
+use Rattle.bidi_remote.specs.State.Stands.{StandsFor, IsShort}
 use Rattle.bidi_remote.specs.declared.remote_end.RemoteFault.{RemoteFault}
 use Rattle.bidi_remote.specs.declared.remote_end.RemoteFault.TheVariants.{WornOut}
 use Rattle.bidi_sessions.specs.Limits.{most_steps}
@@ -123,19 +124,28 @@ err-beside {T = T} {U = U} f w i = err_of {T = T} f w (same_err {T = U} f w i)
 pub worn-err : {T U E P : Type 0} (f w : E) → IsErrOf {T = T} (Err f) w ↔ P → IsErrOf {T = U} (Err f) w ↔ P
 worn-err {T = T} {U = U} f w e = (λ i. e.0 (err-beside {T = T} {U = U} f w i), λ p. err-beside {T = U} {U = T} f w (e.1 p))
 
+-- a step comes before the last if it does not wear the remote end out
+pub not-worn : {T : Type 0} (t : T) (h : List Input) → IsErrOf (Ok t) WornOut ↔ (most_steps ≤ length h) → IsShort h
+not-worn t h worn = lt_of_not-le (λ many. ok_err (worn.1 many))
+
 -- ---- what is handed on
+
+-- a step that was handed on came before the last
+pub on-short : (step : Step) (old new : RemoteEnd) (t : Taken) (h : List Input) → StandsFor old h → IsHandedOn step old new (Ok t) → IsShort h
+on-short step old new t h s on = not-worn t h (on.worn_out h s)
 
 -- a step that was handed on, where the script is as it should be
 pub handed_on : (step : Step) (old new : RemoteEnd) (script after : Script) (r : Result Taken RemoteFault) (h : List Input) → StandsFor old h
     → IsHandedOn step old new r → after ≡ after_step (deeds h) step script → IfOk r (λ t. Becomes HandedOn h step old script new after t)
 handed_on step old new script after (Err e) h s on same = tt
-handed_on step old new script after (Ok t) h s on same = (on.ok.0, on.ok.1, on.ok.2, on.ok.3, (on.ok.4 h s).0, (on.ok.4 h s).2, same)
+handed_on step old new script after (Ok t) h s on same =
+    (on.ok.0, on.ok.1, on.ok.2, on.ok.3, (on.ok.4 h s).0, (on.ok.4 h s).2, same, on-short step old new t h s on)
 
 -- a message that the remote end heard
 pub heard-on : (c : ℕ) (text : List ℕ) (old new : RemoteEnd) (script : Script) (sent : List declared_sent.Sent) (t : Taken) (h : List Input) → StandsFor old h
     → IsHeard c text old new sent → t.sent.items ≡ sent → t.is_of_machine ≡ true → t.held ≡ None → Becomes HandedOn h (steps.Text c text) old script new script t
 heard-on c text old new script sent t h s heard same machine held =
-    let it = heard.2 h s in (heard.0, heard.1, held, machine, ap (map sent_of) same ∙ it.0, it.2, refl)
+    let it = heard.2 h s in (heard.0, heard.1, held, machine, ap (map sent_of) same ∙ it.0, it.2, refl, it.3)
 
 -- what becomes of a step, by another name of its fate
 pub becomes : (f g : Fate) (step : Step) (old new : RemoteEnd) (script after : Script) (r : Result Taken RemoteFault) (h : List Input) → f ≡ g
@@ -185,7 +195,8 @@ taken-found step old new script after r busy brings err worn = record {
 opened-ok : (step : Step) (old new : RemoteEnd) (script after : Script) (r : Result Taken RemoteFault) (h : List Input) → StandsFor old h
     → IsHandedOn step old new r → OnOk r (after ≡ after_step (deeds h) step script) → IfOk r (λ t. Becomes HandedOn h step old script new after t)
 opened-ok step old new script after (Err e) h s on same = tt
-opened-ok step old new script after (Ok t) h s on same = (on.ok.0, on.ok.1, on.ok.2, on.ok.3, (on.ok.4 h s).0, (on.ok.4 h s).2, same)
+opened-ok step old new script after (Ok t) h s on same =
+    (on.ok.0, on.ok.1, on.ok.2, on.ok.3, (on.ok.4 h s).0, (on.ok.4 h s).2, same, on-short step old new t h s on)
 
 opened-err : (r : Result Taken RemoteFault) (A B : Type 0) → OnErr r A → OnErr r B → OnErr r (A × B)
 opened-err (Ok t) A B a b = tt

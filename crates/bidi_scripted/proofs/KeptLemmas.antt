@@ -27,6 +27,7 @@ use Rattle.bidi_names.specs.Replies.{succeeded, Gives, AreNumbers, id_result}
 use Rattle.bidi_names.specs.Subscriptions.{Named, holds_globally, dismissed, cancelled}
 use Rattle.bidi_names.proofs.ReplyLemmas.{none_some}
 use Rattle.bidi_scripted.specs.Becomes.{IsHandedOn}
+use Rattle.bidi_scripted.proofs.FateLemmas.{on-short}
 use Rattle.bidi_scripted.specs.Script.{Script}
 use Rattle.bidi_remote.specs.Machine.Sessions.{sessions}
 use Rattle.bidi_scripted.specs.Kept.{Taking, next_alone, with_made, keeps_any, Hears, Refuses, Succeeds, Makes, Keeps, Leaves, HearsText, Takes, IsNamed, has_room, part_or, scope_wanted, subscribing, unsubscribing, ending}
@@ -36,7 +37,7 @@ use Rattle.bidi_scripted.specs.Kept.{Taking, next_alone, with_made, keeps_any, H
 -- a message that was handed on
 pub hears : (c : ℕ) (text : List ℕ) (old new : RemoteEnd) (t : Taken) (h : List Input) → StandsFor old h → IsHandedOn (steps.Text c text) old new (Ok t)
     → HearsText c text h new t
-hears c text old new t h s on = (on.ok.0, on.ok.1, (on.ok.4 h s).0, on.ok.3, (on.ok.4 h s).2)
+hears c text old new t h s on = (on.ok.0, on.ok.1, (on.ok.4 h s).0, on.ok.3, (on.ok.4 h s).2, on-short (steps.Text c text) old new t h s on)
 
 -- a message of a connection that speaks for no session
 pub named-none : (c : ℕ) (text : List ℕ) (old new : RemoteEnd) (script after : Script) (r : Result Taken RemoteFault) (h : List Input) (o : Option ℕ) → o ≡ None
@@ -224,11 +225,6 @@ module _ (c : ℕ) (text part : List ℕ) (h : List Input) (s : ℕ) (old new : 
         (λ m small g. absurd (none_some _ (every m small (subst (λ xs. Gives s (map sent_of xs) m) (sym all) g)))),
         (λ none. kept),
       )
-
--- the commands that are held stay, whatever names are kept
-pub held-either : (b : Bool) (script : Script) (named : List Named) → (if b then record script { named = named } else script).held ≡ script.held
-held-either true script named = refl
-held-either false script named = refl
 
 -- ---- how many ids are left
 

@@ -6,3 +6,4 @@ pub mod SendLemmas
 pub mod FaultLemmas
 pub mod AskLemmas
 pub mod KeptLemmas
+pub mod OnlyLemmas

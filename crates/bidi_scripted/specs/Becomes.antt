@@ -17,7 +17,7 @@ use Rattle.bidi_remote.specs.Machine.Outcome.{deeds}
 use Rattle.bidi_remote.specs.declared.remote_end.RemoteFault.{RemoteFault}
 use Rattle.bidi_remote.specs.declared.remote_end.RemoteFault.TheVariants.{WornOut}
 use Rattle.bidi_remote.specs.Machine.Sent.{Sent, out, Text}
-use Rattle.bidi_remote.specs.State.Stands.{StandsFor}
+use Rattle.bidi_remote.specs.State.Stands.{StandsFor, IsShort}
 use Rattle.bidi_remote.specs.declared.remote_end.RemoteEnd.{RemoteEnd}
 use Rattle.bidi_scripted.specs.declared.scripted_end.Taken.{Taken}
 use Rattle.bidi_scripted.specs.declared.finding.Found.{Found}
@@ -43,7 +43,7 @@ pub record IsHandedOn (step : Step) (old new : RemoteEnd) (result : Result Taken
 abbrev pub Becomes : Fate → List Input → Step → RemoteEnd → Script → RemoteEnd → Script → Taken → Type 0
 Becomes HandedOn h step old script new after t =
     (i : Input) × IsHeardAs step i × (t.held ≡ None) × (t.is_of_machine ≡ true) × (map sent_of t.sent.items ≡ out h i) × StandsFor new (i ∷ h)
-    × (after ≡ after_step (deeds h) step script)
+    × (after ≡ after_step (deeds h) step script) × IsShort h
 Becomes (Answered c command answer) h step old script new after t =
     (map sent_of t.sent.items ≡ answer_sent (deeds h) script.named c command.id answer) × (t.held ≡ None) × (t.is_of_machine ≡ false)
     × (new ≡ old) × (after ≡ with_use command script)
@@ -87,7 +87,7 @@ IsFound None rows known s =
 abbrev pub IsHeard : ℕ → List ℕ → RemoteEnd → RemoteEnd → List declared_step.Sent → Type 0
 IsHeard c s old new sent =
     (i : Input) × IsHeardAs (steps.Text c s) i
-    × ((h : List Input) → StandsFor old h → (map sent_of sent ≡ out h i) × AllReadBack (map sent_of sent) × StandsFor new (i ∷ h))
+    × ((h : List Input) → StandsFor old h → (map sent_of sent ≡ out h i) × AllReadBack (map sent_of sent) × StandsFor new (i ∷ h) × IsShort h)
 
 -- What came of looking at a text is right: what was found for it, which is JSON; or nothing was, or it is no JSON, and the remote end heard it.
 abbrev pub IsLooked : List declared_row.Row → List (List ℕ) → ℕ → List ℕ → RemoteEnd → RemoteEnd → Looked → Type 0

@@ -20,7 +20,7 @@ use Rattle.bidi_remote.specs.Machine.Connections.{attachment_of}
 use Rattle.bidi_remote.specs.Machine.Asking.{session_in, subscriptions_in}
 use Rattle.bidi_remote.specs.Machine.Outcome.{deeds, scope_asked}
 use Rattle.bidi_remote.specs.Machine.Sent.{Sent, out, Text}
-use Rattle.bidi_remote.specs.State.Stands.{StandsFor}
+use Rattle.bidi_remote.specs.State.Stands.{StandsFor, IsShort}
 use Rattle.bidi_remote.specs.declared.remote_end.RemoteEnd.{RemoteEnd}
 use Rattle.bidi_scripted.specs.declared.scripted_end.Taken.{Taken}
 use Rattle.bidi_names.specs.Subscriptions.{Named, holds_globally, dismissed, cancelled, of_active, is_too_many, unlisted, other_ids}
@@ -132,10 +132,11 @@ Keeps past s (Some (Subscribes w)) sent script after =
     × (((n : ℕ) → n < 2 ^ 48 → Gives s sent n → ⊥) → after ≡ script)
 Keeps past s asked sent script after = MatchBool (succeeded sent) (Leaves s asked script after) (after ≡ script)
 
--- The machine hears this text on the connection, and what it sends is sent.
+-- The machine, which still accepts steps, hears this text on the connection, and what it sends is sent.
 abbrev pub HearsText : ℕ → List ℕ → List Input → RemoteEnd → Taken → Type 0
 HearsText c text h new t =
     (i : Input) × IsHeardAs (steps.Text c text) i × (map sent_of t.sent.items ≡ out h i) × (t.is_of_machine ≡ true) × StandsFor new (i ∷ h)
+    × IsShort h
 
 -- The remote end is as it was, and this text answers the command on the connection.
 abbrev pub AnswersBy : ℕ → List ℕ → RemoteEnd → RemoteEnd → Taken → Type 0

@@ -1,5 +1,5 @@
 -- What a test says of commands that do not go to the machine: rows, and the commands that are held. This project's own.
-use Rattle.std.specs.Prelude.{ℕ, suc, ◌+◌, ◌-◌, ◌==◌, nat_lt, nat_le, Bool, true, false, not, ◌&&◌, if◌then◌else◌, List, [], ◌∷◌, ◌++◌, length, map, filter, find, bytes_eq, Option, Some, None}
+use Rattle.std.specs.Prelude.{◌≡◌, ℕ, suc, ◌+◌, ◌-◌, ◌==◌, nat_lt, nat_le, Bool, true, false, not, ◌&&◌, if◌then◌else◌, List, [], ◌∷◌, ◌++◌, length, map, filter, find, bytes_eq, Option, Some, None}
 use Rattle.bidi_rows.specs.Command.{Command}
 use Rattle.bidi_rows.specs.Filling.{Template}
 use Rattle.std.specs.List.{list_any}
@@ -148,6 +148,10 @@ with_opening c script = record script { held = map (lost_on c) script.held }
 abbrev pub with_follower : Follower → Script → Script
 with_follower follower script =
     record script { followers = filter (λ f. not (bytes_eq f.method follower.method)) script.followers ++ follower ∷ [] }
+
+-- Nothing of the script has changed but the subscriptions to names.
+abbrev pub OnlySubscriptionsChange : Script → Script → Type 0
+OnlySubscriptionsChange script after = after ≡ record script { named = after.named; made = after.made }
 
 -- the script with more words that are known, each once
 abbrev pub with_names : List (List ℕ) → Script → Script

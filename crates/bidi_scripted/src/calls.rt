@@ -12,9 +12,9 @@ ghost use Rattle.bidi_rows.specs.View.{row_of, answer_of};
 ghost use Rattle.bidi_remote.specs.Machine.History.{Input, IsHeardAs};
 ghost use Rattle.bidi_remote.specs.Machine.Outcome.{deeds};
 ghost use Rattle.bidi_remote.specs.Machine.Sent.{out, Lost};
-ghost use Rattle.bidi_remote.specs.State.Stands.{StandsFor};
+ghost use Rattle.bidi_remote.specs.State.Stands.{StandsFor, IsShort};
 ghost use Rattle.bidi_scripted.specs.Script as script;
-ghost use Rattle.bidi_scripted.specs.Script.{most_rows, can_keep, has_room_for_row, has_room_for_follower, has_room_for_names, with_row, with_follower, with_names, has_method, without_method, without_held, held_by};
+ghost use Rattle.bidi_scripted.specs.Script.{OnlySubscriptionsChange, most_rows, can_keep, has_room_for_row, has_room_for_follower, has_room_for_names, with_row, with_follower, with_names, has_method, without_method, without_held, held_by};
 ghost use Rattle.bidi_names.specs.Names.{is_known, words, can_be_known};
 ghost use Rattle.bidi_scripted.specs.Faults.{RefusesRow, RefusesRemoval, RefusesFollower, RefusesNames, RefusesEvent, RefusesRelease, RefusesAnswer};
 ghost use Rattle.bidi_scripted.specs.Kept.{NamesAsked};
@@ -153,15 +153,16 @@ impl ScriptedEnd {
         ensures handed_on { (held : script.Held) → held_by number (script_of self.old.script) ≡ Some held → held.is_lost ≡ false
             → (script_of self.old.script).known ≡ []
             → IfOk result (λ t. (i : Input) × IsHeardAs (steps.Text held.conn held.text) i × (t.is_of_machine ≡ true) × (t.held ≡ None)
-            × ((h : List Input) → StandsFor self.old.end h → (map sent_of t.sent.items ≡ out h i) × StandsFor self.new.end (i ∷ h))
+            × ((h : List Input) → StandsFor self.old.end h → (map sent_of t.sent.items ≡ out h i) × StandsFor self.new.end (i ∷ h) × IsShort h)
             × (script_of self.new.script ≡ without_held number (script_of self.old.script))) }
         // While names are known, it is taken as a message that may ask for them; then this command is gone.
         ensures named { (h : List Input) (held : script.Held) → StandsFor self.old.end h → held_by number (script_of self.old.script) ≡ Some held
             → held.is_lost ≡ false → (script_of self.old.script).known ≢ []
             → IfOk result (λ t. (t.held ≡ None) × (mid : script.Script) × NamesAsked held.conn held.text h self.old.end (script_of self.old.script) self.new.end mid t
             × (script_of self.new.script ≡ without_held number mid)) }
-        // After an Ok, the command is held no longer, so it cannot be released again.
-        ensures released { OnOk result ((script_of self.new.script).held ≡ (without_held number (script_of self.old.script)).held) }
+        // After an Ok, the command is held no longer, so it cannot be released again, and nothing else of the script has changed but the
+        // subscriptions to names.
+        ensures released { OnOk result (OnlySubscriptionsChange (without_held number (script_of self.old.script)) (script_of self.new.script)) }
         // After an error the script is as it was, and the remote end stands for the histories that it stood for before.
         ensures err { OnErr result ((script_of self.new.script ≡ script_of self.old.script)
             × ((h : List Input) → StandsFor self.old.end h → StandsFor self.new.end h)) }
@@ -212,12 +213,12 @@ impl ScriptedEnd {
     ) -> Result<Taken, ScriptFault>
         ensures handed_on { (script_of self.old.script).known ≡ []
             → IfOk result (λ t. (i : Input) × IsHeardAs (steps.Text conn.value (string_bytes text)) i × (t.is_of_machine ≡ true) × (t.held ≡ None)
-            × ((h : List Input) → StandsFor self.old.end h → (map sent_of t.sent.items ≡ out h i) × StandsFor self.new.end (i ∷ h))
+            × ((h : List Input) → StandsFor self.old.end h → (map sent_of t.sent.items ≡ out h i) × StandsFor self.new.end (i ∷ h) × IsShort h)
             × (script_of self.new.script ≡ without_held number (script_of self.old.script))) }
         ensures named { (h : List Input) → StandsFor self.old.end h → (script_of self.old.script).known ≢ []
             → IfOk result (λ t. (t.held ≡ None) × (mid : script.Script) × NamesAsked conn.value (string_bytes text) h self.old.end (script_of self.old.script) self.new.end mid t
             × (script_of self.new.script ≡ without_held number mid)) }
-        ensures released { OnOk result ((script_of self.new.script).held ≡ (without_held number (script_of self.old.script)).held) }
+        ensures released { OnOk result (OnlySubscriptionsChange (without_held number (script_of self.old.script)) (script_of self.new.script)) }
         ensures err { OnErr result ((script_of self.new.script ≡ script_of self.old.script)
             × ((h : List Input) → StandsFor self.old.end h → StandsFor self.new.end h)) }
         ensures worn_out { (h : List Input) → StandsFor self.old.end h → IsErrOf result ScriptFault.WornOut → most_steps ≤ length h }

@@ -9,6 +9,7 @@ ghost use Rattle.bidi_sessions.specs.Step as steps;
 ghost use Rattle.bidi_names.specs.View.{texts_of, asked_seen};
 ghost use Rattle.bidi_scripted.specs.Becomes.{IsHandedOn};
 ghost use Rattle.bidi_scripted.specs.Kept.{IsNamed, NamesAsked as IsNamesAsked, Takes, asked_in, part_or, taking};
+ghost use Rattle.bidi_scripted.specs.Script.{OnlySubscriptionsChange};
 ghost use Rattle.bidi_scripted.specs.View.{script_of};
 
 use crate::judging::is_command;
@@ -26,7 +27,7 @@ impl ScriptedEnd {
             × (self.new.script ≡ self.old.script) }
         ensures named { (h : List Input) → StandsFor self.old.end h → (script_of self.old.script).known ≢ []
             → IfOk result (λ t. (t.held ≡ None) × IsNamesAsked conn.value text.now h self.old.end (script_of self.old.script) self.new.end (script_of self.new.script) t) }
-        ensures held { OnOk result ((script_of self.new.script).held ≡ (script_of self.old.script).held) }
+        ensures rest { OnOk result (OnlySubscriptionsChange (script_of self.old.script) (script_of self.new.script)) }
         ensures worn_out { (h : List Input) → StandsFor self.old.end h → IsErrOf result RemoteFault.WornOut → most_steps ≤ length h }
         ensures err { OnErr result ((script_of self.new.script ≡ script_of self.old.script)
             × ((h : List Input) → StandsFor self.old.end h → StandsFor self.new.end h)) }
@@ -41,7 +42,7 @@ impl ScriptedEnd {
     fn hear_known(&mut self, conn: JsUint, text: &str) -> Result<Taken, RemoteFault>
         ensures named { (h : List Input) → StandsFor self.old.end h
             → IfOk result (λ t. (t.held ≡ None) × IsNamesAsked conn.value text.now h self.old.end (script_of self.old.script) self.new.end (script_of self.new.script) t) }
-        ensures held { OnOk result ((script_of self.new.script).held ≡ (script_of self.old.script).held) }
+        ensures rest { OnOk result (OnlySubscriptionsChange (script_of self.old.script) (script_of self.new.script)) }
         ensures worn_out { (h : List Input) → StandsFor self.old.end h → IsErrOf result RemoteFault.WornOut → most_steps ≤ length h }
         ensures err { OnErr result ((script_of self.new.script ≡ script_of self.old.script)
             × ((h : List Input) → StandsFor self.old.end h → StandsFor self.new.end h)) }
@@ -56,7 +57,7 @@ impl ScriptedEnd {
     fn hear_session(&mut self, conn: JsUint, session: u32, text: &str) -> Result<Taken, RemoteFault>
         ensures named { (h : List Input) → StandsFor self.old.end h
             → IfOk result (λ t. (t.held ≡ None) × IsNamed conn.value text.now h (Some session) self.old.end (script_of self.old.script) self.new.end (script_of self.new.script) t) }
-        ensures held { OnOk result ((script_of self.new.script).held ≡ (script_of self.old.script).held) }
+        ensures rest { OnOk result (OnlySubscriptionsChange (script_of self.old.script) (script_of self.new.script)) }
         ensures worn_out { (h : List Input) → StandsFor self.old.end h → IsErrOf result RemoteFault.WornOut → most_steps ≤ length h }
         ensures err { OnErr result ((script_of self.new.script ≡ script_of self.old.script)
             × ((h : List Input) → StandsFor self.old.end h → StandsFor self.new.end h)) }
@@ -78,7 +79,7 @@ impl ScriptedEnd {
         ensures takes { (h : List Input) → StandsFor self.old.end h → (let asks = option_map asked_seen asked in
             IfOk result (λ t. (t.held ≡ None) × Takes conn.value h session asks self.old.end (script_of self.old.script) self.new.end (script_of self.new.script) t
             (taking (deeds h) (script_of self.old.script) session text.now asks))) }
-        ensures held { OnOk result ((script_of self.new.script).held ≡ (script_of self.old.script).held) }
+        ensures rest { OnOk result (OnlySubscriptionsChange (script_of self.old.script) (script_of self.new.script)) }
         ensures worn_out { (h : List Input) → StandsFor self.old.end h → IsErrOf result RemoteFault.WornOut → most_steps ≤ length h }
         ensures err { OnErr result ((script_of self.new.script ≡ script_of self.old.script)
             × ((h : List Input) → StandsFor self.old.end h → StandsFor self.new.end h)) }

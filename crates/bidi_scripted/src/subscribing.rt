@@ -9,7 +9,7 @@ ghost use Rattle.bidi_sessions.specs.SubscriptionView.{scope_of};
 ghost use Rattle.bidi_names.specs.Asked.{Subscribes};
 ghost use Rattle.bidi_names.specs.View.{texts_of, ids_seen, wanted_of};
 ghost use Rattle.bidi_scripted.specs.Kept.{Hears, Makes, Takes, alone, has_room, part_or, scope_wanted, subscribing};
-ghost use Rattle.bidi_scripted.specs.Script.{most_numbers};
+ghost use Rattle.bidi_scripted.specs.Script.{OnlySubscriptionsChange, most_numbers};
 ghost use Rattle.bidi_scripted.specs.View.{script_of};
 
 use crate::naming::part_or;
@@ -39,7 +39,7 @@ impl ScriptedEnd {
         ensures takes { (h : List Input) → StandsFor self.old.end h → (let w = wanted_of wanted in
             IfOk result (λ t. (t.held ≡ None) × Takes conn.value h session (Some (Subscribes w)) self.old.end (script_of self.old.script) self.new.end (script_of self.new.script) t
             (subscribing (deeds h) (script_of self.old.script) session text.now w (scope_wanted (deeds h) w)))) }
-        ensures held { OnOk result ((script_of self.new.script).held ≡ (script_of self.old.script).held) }
+        ensures rest { OnOk result (OnlySubscriptionsChange (script_of self.old.script) (script_of self.new.script)) }
         ensures worn_out { (h : List Input) → StandsFor self.old.end h → IsErrOf result RemoteFault.WornOut → most_steps ≤ length h }
         ensures err { OnErr result ((script_of self.new.script ≡ script_of self.old.script)
             × ((h : List Input) → StandsFor self.old.end h → StandsFor self.new.end h)) }
@@ -73,7 +73,7 @@ impl ScriptedEnd {
         ensures takes { (h : List Input) → StandsFor self.old.end h → (let w = wanted_of wanted in scope_wanted (deeds h) w ≡ Ok (scope_of scope)
             → IfOk result (λ t. (t.held ≡ None) × Takes conn.value h session (Some (Subscribes w)) self.old.end (script_of self.old.script) self.new.end (script_of self.new.script) t
             (subscribing (deeds h) (script_of self.old.script) session text.now w (Ok (scope_of scope))))) }
-        ensures held { OnOk result ((script_of self.new.script).held ≡ (script_of self.old.script).held) }
+        ensures rest { OnOk result (OnlySubscriptionsChange (script_of self.old.script) (script_of self.new.script)) }
         ensures worn_out { (h : List Input) → StandsFor self.old.end h → IsErrOf result RemoteFault.WornOut → most_steps ≤ length h }
         ensures err { OnErr result ((script_of self.new.script ≡ script_of self.old.script)
             × ((h : List Input) → StandsFor self.old.end h → StandsFor self.new.end h)) }
@@ -114,7 +114,7 @@ impl ScriptedEnd {
             → has_room (deeds h) (script_of self.old.script) session (length w.foreign) ≡ true
             → IfOk result (λ t. (t.held ≡ None) × Takes conn.value h session (Some (Subscribes w)) self.old.end (script_of self.old.script) self.new.end (script_of self.new.script) t
             (subscribing (deeds h) (script_of self.old.script) session text.now w (Ok (scope_of scope))))) }
-        ensures held { OnOk result ((script_of self.new.script).held ≡ (script_of self.old.script).held) }
+        ensures rest { OnOk result (OnlySubscriptionsChange (script_of self.old.script) (script_of self.new.script)) }
         ensures worn_out { (h : List Input) → StandsFor self.old.end h → IsErrOf result RemoteFault.WornOut → most_steps ≤ length h }
         ensures err { OnErr result ((script_of self.new.script ≡ script_of self.old.script)
             × ((h : List Input) → StandsFor self.old.end h → StandsFor self.new.end h)) }
@@ -136,7 +136,7 @@ impl ScriptedEnd {
         requires { self.now.script.made ≤ most_numbers }
         ensures takes { (h : List Input) → StandsFor self.old.end h → (let w = wanted_of wanted in
             IfOk result (λ t. (t.held ≡ None) × Takes conn.value h session (Some (Subscribes w)) self.old.end (script_of self.old.script) self.new.end (script_of self.new.script) t (Makes w (scope_of scope)))) }
-        ensures held { OnOk result ((script_of self.new.script).held ≡ (script_of self.old.script).held) }
+        ensures rest { OnOk result (OnlySubscriptionsChange (script_of self.old.script) (script_of self.new.script)) }
         ensures worn_out { (h : List Input) → StandsFor self.old.end h → IsErrOf result RemoteFault.WornOut → most_steps ≤ length h }
         ensures err { OnErr result ((script_of self.new.script ≡ script_of self.old.script)
             × ((h : List Input) → StandsFor self.old.end h → StandsFor self.new.end h)) }
@@ -177,7 +177,7 @@ impl ScriptedEnd {
     ) -> Result<Taken, RemoteFault>
         ensures takes { (h : List Input) → StandsFor self.old.end h → (let w = wanted_of wanted in scope_wanted (deeds h) w ≡ Ok (scope_of scope)
             → IfOk result (λ t. (t.held ≡ None) × Takes conn.value h session (Some (Subscribes w)) self.old.end (script_of self.old.script) self.new.end (script_of self.new.script) t (Hears (part_or w.part text.now)))) }
-        ensures held { OnOk result ((script_of self.new.script).held ≡ (script_of self.old.script).held) }
+        ensures rest { OnOk result (OnlySubscriptionsChange (script_of self.old.script) (script_of self.new.script)) }
         ensures worn_out { (h : List Input) → StandsFor self.old.end h → IsErrOf result RemoteFault.WornOut → most_steps ≤ length h }
         ensures err { OnErr result ((script_of self.new.script ≡ script_of self.old.script)
             × ((h : List Input) → StandsFor self.old.end h → StandsFor self.new.end h)) }

@@ -11,6 +11,7 @@ ghost use Rattle.bidi_names.specs.Replies.{AreNumbers};
 ghost use Rattle.bidi_names.specs.Subscriptions.{other_ids};
 ghost use Rattle.bidi_names.specs.View.{texts_of, wanted_of};
 ghost use Rattle.bidi_scripted.specs.Kept.{Hears, Succeeds, Takes, alone, ending, part_or, unsubscribing};
+ghost use Rattle.bidi_scripted.specs.Script.{OnlySubscriptionsChange};
 ghost use Rattle.bidi_scripted.specs.View.{script_of};
 
 use crate::naming::part_or;
@@ -36,7 +37,7 @@ impl ScriptedEnd {
         ensures takes { (h : List Input) → StandsFor self.old.end h → (let w = wanted_of wanted in
             IfOk result (λ t. (t.held ≡ None) × Takes conn.value h session (Some (Unsubscribes w)) self.old.end (script_of self.old.script) self.new.end (script_of self.new.script) t
             (unsubscribing (script_of self.old.script) session text.now w))) }
-        ensures held { OnOk result ((script_of self.new.script).held ≡ (script_of self.old.script).held) }
+        ensures rest { OnOk result (OnlySubscriptionsChange (script_of self.old.script) (script_of self.new.script)) }
         ensures worn_out { (h : List Input) → StandsFor self.old.end h → IsErrOf result RemoteFault.WornOut → most_steps ≤ length h }
         ensures err { OnErr result ((script_of self.new.script ≡ script_of self.old.script)
             × ((h : List Input) → StandsFor self.old.end h → StandsFor self.new.end h)) }
@@ -59,7 +60,7 @@ impl ScriptedEnd {
     ) -> Result<Taken, RemoteFault>
         ensures takes { (h : List Input) → StandsFor self.old.end h → (let w = wanted_of wanted in
             IfOk result (λ t. (t.held ≡ None) × Takes conn.value h session (Some (Unsubscribes w)) self.old.end (script_of self.old.script) self.new.end (script_of self.new.script) t (Succeeds w.id))) }
-        ensures held { OnOk result ((script_of self.new.script).held ≡ (script_of self.old.script).held) }
+        ensures rest { OnOk result (OnlySubscriptionsChange (script_of self.old.script) (script_of self.new.script)) }
         ensures worn_out { (h : List Input) → StandsFor self.old.end h → IsErrOf result RemoteFault.WornOut → most_steps ≤ length h }
         ensures err { OnErr result ((script_of self.new.script ≡ script_of self.old.script)
             × ((h : List Input) → StandsFor self.old.end h → StandsFor self.new.end h)) }
@@ -80,7 +81,7 @@ impl ScriptedEnd {
     ) -> Result<Taken, RemoteFault>
         ensures takes { (h : List Input) → StandsFor self.old.end h → (let w = wanted_of wanted in
             IfOk result (λ t. (t.held ≡ None) × Takes conn.value h session (Some (Unsubscribes w)) self.old.end (script_of self.old.script) self.new.end (script_of self.new.script) t (Hears (part_or w.part text.now)))) }
-        ensures held { OnOk result ((script_of self.new.script).held ≡ (script_of self.old.script).held) }
+        ensures rest { OnOk result (OnlySubscriptionsChange (script_of self.old.script) (script_of self.new.script)) }
         ensures worn_out { (h : List Input) → StandsFor self.old.end h → IsErrOf result RemoteFault.WornOut → most_steps ≤ length h }
         ensures err { OnErr result ((script_of self.new.script ≡ script_of self.old.script)
             × ((h : List Input) → StandsFor self.old.end h → StandsFor self.new.end h)) }
@@ -108,7 +109,7 @@ impl ScriptedEnd {
         ensures takes { (h : List Input) → StandsFor self.old.end h → (let ids = texts_of wanted.ids.items in
             IfOk result (λ t. (t.held ≡ None) × Takes conn.value h session (Some (Ends wanted.id.value ids)) self.old.end (script_of self.old.script) self.new.end (script_of self.new.script) t
             (ending text.now wanted.id.value ids (other_ids (alone (deeds h) session (script_of self.old.script).named) session ids)))) }
-        ensures held { OnOk result ((script_of self.new.script).held ≡ (script_of self.old.script).held) }
+        ensures rest { OnOk result (OnlySubscriptionsChange (script_of self.old.script) (script_of self.new.script)) }
         ensures worn_out { (h : List Input) → StandsFor self.old.end h → IsErrOf result RemoteFault.WornOut → most_steps ≤ length h }
         ensures err { OnErr result ((script_of self.new.script ≡ script_of self.old.script)
             × ((h : List Input) → StandsFor self.old.end h → StandsFor self.new.end h)) }
@@ -145,7 +146,7 @@ impl ScriptedEnd {
     ) -> Result<Taken, RemoteFault>
         ensures takes { (h : List Input) (ids : List (List ℕ)) → StandsFor self.old.end h → AreNumbers (id_text Subscription session) ids numbers.now
             → IfOk result (λ t. (t.held ≡ None) × Takes conn.value h session (Some (Ends id.value ids)) self.old.end (script_of self.old.script) self.new.end (script_of self.new.script) t (Succeeds id.value)) }
-        ensures held { OnOk result ((script_of self.new.script).held ≡ (script_of self.old.script).held) }
+        ensures rest { OnOk result (OnlySubscriptionsChange (script_of self.old.script) (script_of self.new.script)) }
         ensures worn_out { (h : List Input) → StandsFor self.old.end h → IsErrOf result RemoteFault.WornOut → most_steps ≤ length h }
         ensures err { OnErr result ((script_of self.new.script ≡ script_of self.old.script)
             × ((h : List Input) → StandsFor self.old.end h → StandsFor self.new.end h)) }
@@ -165,7 +166,7 @@ impl ScriptedEnd {
     ) -> Result<Taken, RemoteFault>
         ensures takes { (h : List Input) (id : ℕ) (ids : List (List ℕ)) → StandsFor self.old.end h → AreNumbers (id_text Subscription session) ids numbers.now
             → IfOk result (λ t. (t.held ≡ None) × Takes conn.value h session (Some (Ends id ids)) self.old.end (script_of self.old.script) self.new.end (script_of self.new.script) t (Hears text.now)) }
-        ensures held { OnOk result ((script_of self.new.script).held ≡ (script_of self.old.script).held) }
+        ensures rest { OnOk result (OnlySubscriptionsChange (script_of self.old.script) (script_of self.new.script)) }
         ensures worn_out { (h : List Input) → StandsFor self.old.end h → IsErrOf result RemoteFault.WornOut → most_steps ≤ length h }
         ensures err { OnErr result ((script_of self.new.script ≡ script_of self.old.script)
             × ((h : List Input) → StandsFor self.old.end h → StandsFor self.new.end h)) }

@@ -43,6 +43,8 @@ page_line release 1 -> release 1, < 1 READY
 page_line release 1 -> release 1, no effect: no command of this number is held
 page_line answer {"method":"session.status","result":{},"times":1} -> answer {"method":"session.status","result":{},"times":1}
 heard 1 STATUS -> > 1 STATUS, < 1 {"id":1,"result":{},"type":"success"}
+page_line answer {"method":"session.status","result":{},"times":1} -> answer {"method":"session.status","result":{},"times":1}
+heard 1 {"id":1,\n"method":"session.status","params":{}} -> > 1 {"id":1,\r"method":"session.status","params":{}}, < 1 {"id":1,"result":{},"type":"success"}
 page_line send 1 x -> send 1 x, < 1 x
 page_line send 7 x -> send 7 x, no effect: the connection is not open
 page_line bytes 1 0aF -> bytes 1 0aF, no effect: the bytes are not pairs of hexadecimal digits

@@ -13,9 +13,10 @@ returns-in-Ok-clause-ok c =
     let step = steps.Text c.args.conn.value c.args.text.now in record {
       said = Plain step;
       is = record { says = c.requires.1; can = said_plain step c.requires.0; plain = λ s can is. refl };
+      brings = λ h s. c.in-Ok.ensures.brings h s;
       takes = λ s same empty.
           subst (λ (t : Step). TakesStep t c.args.end.now c.hear.new.end (Ok c.in-Ok.outcome) × (script_of c.hear.new.end.script ≡ no_script))
-          (same_plain step s same) (c.in-Ok.ensures empty);
+          (same_plain step s same) (c.in-Ok.ensures.plain empty);
     }
 
 pub returns-in-Err-clause-says : goal.returns-in-Err-clause-says

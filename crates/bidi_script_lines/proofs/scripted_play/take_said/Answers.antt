@@ -6,6 +6,7 @@ pub returns-in-Ok-clause-ok : goal.returns-in-Ok-clause-ok
 returns-in-Ok-clause-ok c = record {
   said = said_by c.in-Some.said;
   is = match_some c.args.said c.in-Some.said _ _ c.requires c.in-Some.is;
+  brings = λ h s. c.in-Ok.ensures.brings h s;
   takes = λ s same empty. c.in-Ok.ensures.plain s same empty;
 }
 

@@ -6,4 +6,4 @@ pub returns-in_ok-outcome_lines-in-Ok-Some-clause-ok : goal.returns-in_ok-outcom
 returns-in_ok-outcome_lines-in-Ok-Some-clause-ok c first lines text p counted =
     let took = match_some c.in-Ok-Some.field-0 c.in-Ok-Some.outcome _ _ c.in-Ok-Some.ensures.ok c.in-Ok-Some.field-0-is in
     performed_more c.args.self.now.end c.take_line.new.end lines c.args.line.now text c.in_ok-outcome_lines-in-Ok-Some.field-0.items took.said c.in-Ok-Some.outcome p
-    took.is took.takes c.in_ok-outcome_lines-in-Ok-Some.ensures
+    took.is took.brings took.takes c.in_ok-outcome_lines-in-Ok-Some.ensures

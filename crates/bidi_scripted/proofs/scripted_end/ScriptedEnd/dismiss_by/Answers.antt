@@ -8,8 +8,10 @@ use Rattle.bidi_names.specs.View.{texts_of, wanted_of}
 use Rattle.bidi_scripted.specs.declared.scripted_end.ScriptedEnd.{ScriptedEnd}
 use Rattle.bidi_scripted.specs.Becomes.{IsHandedOn}
 use Rattle.bidi_scripted.specs.Kept.{Hears, Takes, part_or}
+use Rattle.bidi_scripted.specs.Script.{OnlySubscriptionsChange}
 use Rattle.bidi_scripted.specs.View.{script_of}
 use Rattle.bidi_scripted.proofs.KeptLemmas.{takes-dismissed, takes-undismissed}
+use Rattle.bidi_scripted.proofs.OnlyLemmas.{only-named, only-same}
 use Rattle.bidi_scripted.proofs.scripted_end.ScriptedEnd.dismiss_by.Goals.{then-is_success, else-is_success}
 use Rattle.bidi_scripted.proofs.scripted_end.ScriptedEnd.dismiss_by.Goals as goal
 
@@ -39,4 +41,14 @@ returns-in-Ok-clause-takes c = λ h s.
       | else-is_success v ↦
           subst P (sym v.self-is)
           (takes-undismissed conn part h session self.end new.end script (script_of new.script) t s heard w (sym success ∙ v.if-is_success.false) stays)
+    ]
+
+pub returns-in-Ok-clause-rest : goal.returns-in-Ok-clause-rest
+returns-in-Ok-clause-rest c =
+    let script = script_of c.args.self.now.script in
+    let P : ScriptedEnd → Type 0 = λ x. OnlySubscriptionsChange script (script_of x.script) in
+    let stays = ap script_of c.in-Ok.ensures.script in
+    elim c.if-is_success.branch [
+      | then-is_success v ↦ subst P (sym v.self-is) (only-named script _ _ _ stays v.dismiss_named.ensures)
+      | else-is_success v ↦ subst P (sym v.self-is) (only-same script _ stays)
     ]

@@ -4,6 +4,7 @@ use Rattle.bidi_names.specs.Subscriptions.{Named, named_of, of_active}
 use Rattle.bidi_names.specs.View.{wanted_of}
 use Rattle.bidi_scripted.specs.View.{script_of}
 use Rattle.bidi_scripted.proofs.KeptLemmas.{takes-made}
+use Rattle.bidi_scripted.proofs.OnlyLemmas.{only-made}
 use Rattle.bidi_scripted.proofs.scripted_end.ScriptedEnd.make_alone.Goals as goal
 
 pub returns-clause-takes : goal.returns-clause-takes
@@ -24,3 +25,6 @@ returns-clause-takes c = λ h s.
       named = of_active (live i) (map named_of (c.reserve.ensures.items i)) ++ n ∷ [];
       made = suc script.made;
     }))
+
+pub returns-clause-rest : goal.returns-clause-rest
+returns-clause-rest c = only-made (script_of c.args.self.now.script) _ _ _ c.add_alone.ensures

@@ -3,12 +3,13 @@ use Rattle.bidi_sessions.specs.Step as steps
 use Rattle.bidi_sessions.specs.View.{sent_of}
 use Rattle.bidi_remote.specs.Machine.History.{Input, IsHeardAs}
 use Rattle.bidi_remote.specs.Machine.Sent.{Lost, out}
-use Rattle.bidi_remote.specs.State.Stands.{StandsFor}
+use Rattle.bidi_remote.specs.State.Stands.{StandsFor, IsShort}
 use Rattle.bidi_scripted.specs.Kept.{NamesAsked}
 use Rattle.bidi_scripted.specs.Script.{Script, Held, without_held}
 use Rattle.bidi_scripted.specs.View.{script_of, held_of}
 use Rattle.bidi_sessions.proofs.ListLemmas.{some-same}
-use Rattle.bidi_scripted.proofs.FateLemmas.{if-ok-on}
+use Rattle.bidi_scripted.proofs.FateLemmas.{if-ok-on, on-ok}
+use Rattle.bidi_scripted.proofs.OnlyLemmas.{only-same}
 use Rattle.bidi_scripted.proofs.scripted_end.ScriptedEnd.release.Goals as goal
 
 some_none : {X : Type 0} {x : X} → Some x ≡ None → ⊥
@@ -22,6 +23,9 @@ returns-then-held-clause-lost c = λ held is lost.
     let same : held_of c.in-Some.held.now ≡ held = some-same _ _ (c.in-Some.ensures ∙ is) in
     if-ok-on c.release_lost.result (λ t p gone. (p.0 ∙ ap (λ (h : Held). Lost h.conn ∷ []) same, p.1, p.2, c.release_lost.ensures.end, gone))
     c.release_lost.ensures.lost c.release_lost.ensures.released
+
+pub returns-then-held-clause-released : goal.returns-then-held-clause-released
+returns-then-held-clause-released c = on-ok c.release_lost.result (only-same _ _) c.release_lost.ensures.released
 
 pub returns-then-held-clause-refused : goal.returns-then-held-clause-refused
 returns-then-held-clause-refused c = c.release_lost.ensures.refused _
@@ -37,10 +41,10 @@ returns-in-Ok-clause-handed_on c = λ held is lost none.
     let found = c.in-Some.held.now in
     let same : held_of found ≡ held = some-same _ _ (c.in-Some.ensures ∙ is) in
     subst (λ (x : Held). IfOk c.release_text.result (λ t. (i : Input) × IsHeardAs (steps.Text x.conn x.text) i × (t.is_of_machine ≡ true) × (t.held ≡ None)
-    × ((h : List Input) → StandsFor self.end h → (map sent_of t.sent.items ≡ out h i) × StandsFor new.end (i ∷ h))
+    × ((h : List Input) → StandsFor self.end h → (map sent_of t.sent.items ≡ out h i) × StandsFor new.end (i ∷ h) × IsShort h)
     × (script_of new.script ≡ without_held c.args.number script))) same
     (subst (λ text. IfOk c.release_text.result (λ t. (i : Input) × IsHeardAs (steps.Text found.conn.value text) i × (t.is_of_machine ≡ true) × (t.held ≡ None)
-    × ((h : List Input) → StandsFor self.end h → (map sent_of t.sent.items ≡ out h i) × StandsFor new.end (i ∷ h))
+    × ((h : List Input) → StandsFor self.end h → (map sent_of t.sent.items ≡ out h i) × StandsFor new.end (i ∷ h) × IsShort h)
     × (script_of new.script ≡ without_held c.args.number script)))
     (c.in-Ok.ensures.ok ∙ c.as_str.ensures.value) (c.release_text.ensures.handed_on none))
 

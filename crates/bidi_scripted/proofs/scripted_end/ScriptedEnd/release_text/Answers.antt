@@ -3,7 +3,9 @@ use Rattle.bidi_sessions.specs.Step as steps
 use Rattle.bidi_remote.specs.Machine.History.{IsHeardAs}
 use Rattle.bidi_scripted.specs.Kept.{NamesAsked}
 use Rattle.bidi_scripted.specs.View.{script_of}
-use Rattle.bidi_scripted.specs.Script.{Script, without_held}
+use Rattle.bidi_scripted.specs.Script.{without_held}
+use Rattle.bidi_scripted.proofs.FateLemmas.{on-short}
+use Rattle.bidi_scripted.proofs.OnlyLemmas.{only-without}
 use Rattle.bidi_scripted.proofs.scripted_end.ScriptedEnd.release_text.Goals as goal
 
 pub returns-in-Ok-clause-handed_on : goal.returns-in-Ok-clause-handed_on
@@ -14,7 +16,7 @@ returns-in-Ok-clause-handed_on c = λ none.
       subst (λ text. IsHeardAs (steps.Text c.args.conn.value text) on.0) c.as_str.ensures.value on.1,
       on.3,
       on.2,
-      (λ h s. ((on.4 h s).0, (on.4 h s).2)),
+      (λ h s. ((on.4 h s).0, (on.4 h s).2, on-short _ _ _ _ h s it.0)),
       c.release.ensures ∙ ap (λ x. without_held c.args.number (script_of x)) it.1,
     )
 
@@ -30,6 +32,4 @@ returns-in-Ok-clause-named c = λ h s some.
     )
 
 pub returns-in-Ok-clause-released : goal.returns-in-Ok-clause-released
-returns-in-Ok-clause-released c =
-    let script = script_of c.args.self.now.script in
-    ap (λ (x : Script). x.held) c.release.ensures ∙ ap (λ held. (without_held c.args.number (record script { held = held })).held) c.in-Ok.ensures.held
+returns-in-Ok-clause-released c = only-without c.args.number _ _ _ c.in-Ok.ensures.rest c.release.ensures

@@ -32,8 +32,8 @@ returns-in-Err-Code-clause-takes c = λ h s.
     (ap (subscribing (deeds h) script c.args.session c.args.text.now w) (sym is))
     (takes-refused c.args.conn.value h c.args.session (Some (Subscribes w)) self.end script c.refuse_with.result w.id c.in-Err-Code.code c.refuse_with.ensures.answers)
 
-pub returns-in-Err-Code-clause-held : goal.returns-in-Err-Code-clause-held
-returns-in-Err-Code-clause-held c = anyhow c.refuse_with.result refl
+pub returns-in-Err-Code-clause-rest : goal.returns-in-Err-Code-clause-rest
+returns-in-Err-Code-clause-rest c = anyhow c.refuse_with.result refl
 
 pub returns-in-Err-Code-clause-err : goal.returns-in-Err-Code-clause-err
 returns-in-Err-Code-clause-err c = anyway c.refuse_with.result (refl, λ h s. s)

@@ -32,8 +32,8 @@ returns-in-Ok-false-clause-takes c = λ h s is.
     (subscribing-full (deeds h) script c.args.session c.args.text.now w (scope_of c.args.scope) (ap (has_room (deeds h) script c.args.session) long ∙ sym (c.in-Ok-false.ensures.room h s) ∙ c.in-Ok-false.field-0-test))
     (takes-refused c.args.conn.value h c.args.session (Some (Subscribes w)) self.end script c.refuse_with.result w.id UnknownError c.refuse_with.ensures.answers)
 
-pub returns-in-Ok-false-clause-held : goal.returns-in-Ok-false-clause-held
-returns-in-Ok-false-clause-held c = anyhow c.refuse_with.result refl
+pub returns-in-Ok-false-clause-rest : goal.returns-in-Ok-false-clause-rest
+returns-in-Ok-false-clause-rest c = anyhow c.refuse_with.result refl
 
 pub returns-in-Ok-false-clause-err : goal.returns-in-Ok-false-clause-err
 returns-in-Ok-false-clause-err c = anyway c.refuse_with.result (refl, λ h s. s)

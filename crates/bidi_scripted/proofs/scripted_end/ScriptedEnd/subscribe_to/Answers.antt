@@ -6,9 +6,10 @@ use Rattle.bidi_names.specs.Subscriptions.{Named, named_of, of_active, has_any}
 use Rattle.bidi_names.specs.View.{wanted_of}
 use Rattle.bidi_scripted.specs.declared.scripted_end.ScriptedEnd.{ScriptedEnd}
 use Rattle.bidi_scripted.specs.Kept.{Hears, Takes, part_or}
-use Rattle.bidi_scripted.specs.Script.{Script}
+use Rattle.bidi_scripted.specs.Script.{OnlySubscriptionsChange}
 use Rattle.bidi_scripted.specs.View.{script_of}
-use Rattle.bidi_scripted.proofs.KeptLemmas.{takes-subscribed, takes-unsubscribed, held-either}
+use Rattle.bidi_scripted.proofs.KeptLemmas.{takes-subscribed, takes-unsubscribed}
+use Rattle.bidi_scripted.proofs.OnlyLemmas.{only-either, only-same}
 use Rattle.bidi_scripted.proofs.scripted_end.ScriptedEnd.subscribe_to.Goals.{in-Some, in_default}
 use Rattle.bidi_scripted.proofs.scripted_end.ScriptedEnd.subscribe_to.Goals as goal
 
@@ -45,13 +46,14 @@ returns-in-Ok-clause-takes c = λ h s is.
           c.part_or.ensures w (scope_of c.args.scope) is _ c.deref.ensures.value v.in_default.ensures.every as_it_was)
     ]
 
-pub returns-in-Ok-clause-held : goal.returns-in-Ok-clause-held
-returns-in-Ok-clause-held c =
+pub returns-in-Ok-clause-rest : goal.returns-in-Ok-clause-rest
+returns-in-Ok-clause-rest c =
     let new = c.hand_on_text.new.self in
-    let stays = ap (λ x. (script_of x).held) c.in-Ok.ensures.script in
+    let script = script_of c.args.self.now.script in
+    let P : ScriptedEnd → Type 0 = λ x. OnlySubscriptionsChange script (script_of x.script) in
+    let as_it_was : script_of new.script ≡ script =
+    ap script_of c.in-Ok.ensures.script ∙ (λ i. record script { named = map named_of (c.reserve.ensures.items i) }) in
     elim c.match-number_made.branch [
-      | in-Some v ↦
-          ap (λ (x : ScriptedEnd). (script_of x.script).held) v.self-is
-          ∙ (ap (λ (x : Script). x.held) v.add_named.ensures ∙ (held-either _ (script_of new.script) _ ∙ stays))
-      | in_default v ↦ ap (λ (x : ScriptedEnd). (script_of x.script).held) v.self-is ∙ stays
+      | in-Some v ↦ subst P (sym v.self-is) (only-either _ script (script_of new.script) _ _ as_it_was v.add_named.ensures)
+      | in_default v ↦ subst P (sym v.self-is) (only-same script _ as_it_was)
     ]

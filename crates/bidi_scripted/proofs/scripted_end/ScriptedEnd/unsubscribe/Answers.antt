@@ -22,8 +22,8 @@ returns-then-not-are_global-clause-takes c = λ h s.
     (unsubscribing-refused (deeds h) script c.args.session c.args.text.now w (sym same ∙ c.if-not-are_global.true))
     (takes-refused c.args.conn.value h c.args.session (Some (Unsubscribes w)) self.end script c.refuse_with.result w.id InvalidArgument c.refuse_with.ensures.answers)
 
-pub returns-then-not-are_global-clause-held : goal.returns-then-not-are_global-clause-held
-returns-then-not-are_global-clause-held c = anyhow c.refuse_with.result refl
+pub returns-then-not-are_global-clause-rest : goal.returns-then-not-are_global-clause-rest
+returns-then-not-are_global-clause-rest c = anyhow c.refuse_with.result refl
 
 pub returns-then-not-are_global-clause-err : goal.returns-then-not-are_global-clause-err
 returns-then-not-are_global-clause-err c = anyway c.refuse_with.result (refl, λ h s. s)

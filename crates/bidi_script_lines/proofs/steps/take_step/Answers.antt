@@ -1,6 +1,6 @@
 use Rattle.bidi_sessions.specs.View.{step_of}
 use Rattle.bidi_script_lines.proofs.StepLemmas.{refuses-step, takes-step}
-use Rattle.bidi_script_lines.proofs.performing.take_step.Goals as goal
+use Rattle.bidi_script_lines.proofs.steps.take_step.Goals as goal
 
 pub returns-in-Ok-clause-plain : goal.returns-in-Ok-clause-plain
 returns-in-Ok-clause-plain c = λ empty.

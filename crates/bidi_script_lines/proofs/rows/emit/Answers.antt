@@ -8,7 +8,7 @@ use Rattle.bidi_scripted.specs.View.{script_of}
 use Rattle.bidi_script_lines.specs.Outcomes.{OfTest}
 use Rattle.bidi_script_lines.specs.Performing.{IsUnchanged}
 use Rattle.bidi_script_lines.proofs.PerformLemmas.{no-effect, no-event}
-use Rattle.bidi_script_lines.proofs.performing.emit.Goals as goal
+use Rattle.bidi_script_lines.proofs.rows.emit.Goals as goal
 
 pub returns-in-Ok-clause-brings : goal.returns-in-Ok-clause-brings
 returns-in-Ok-clause-brings c = λ h s.

@@ -5,7 +5,7 @@ use Rattle.bidi_scripted.specs.View.{script_of}
 use Rattle.bidi_script_lines.specs.Outcomes.{OfTest}
 use Rattle.bidi_script_lines.specs.Performing.{KnowsMore}
 use Rattle.bidi_script_lines.proofs.PerformLemmas.{no-effect, no-names, are-names}
-use Rattle.bidi_script_lines.proofs.performing.know.Goals as goal
+use Rattle.bidi_script_lines.proofs.rows.know.Goals as goal
 
 pub returns-in-Ok-clause-brings : goal.returns-in-Ok-clause-brings
 returns-in-Ok-clause-brings c = λ h.

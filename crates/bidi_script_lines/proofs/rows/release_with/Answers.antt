@@ -5,7 +5,7 @@ use Rattle.bidi_scripted.specs.View.{script_of}
 use Rattle.bidi_script_lines.specs.Outcomes.{OfTest}
 use Rattle.bidi_script_lines.specs.Performing.{ReleasesWith}
 use Rattle.bidi_script_lines.proofs.PerformLemmas.{there, no-effect, no-answer}
-use Rattle.bidi_script_lines.proofs.performing.release_with.Goals as goal
+use Rattle.bidi_script_lines.proofs.rows.release_with.Goals as goal
 
 pub returns-in-Ok-clause-brings : goal.returns-in-Ok-clause-brings
 returns-in-Ok-clause-brings c = λ h s.

@@ -5,7 +5,7 @@ use Rattle.bidi_scripted.specs.View.{script_of}
 use Rattle.bidi_script_lines.specs.Outcomes.{OfMachine, OfTest}
 use Rattle.bidi_script_lines.specs.Performing.{Releases}
 use Rattle.bidi_script_lines.proofs.PerformLemmas.{there, taken-of_test, taken-of_machine, not-released, no-release}
-use Rattle.bidi_script_lines.proofs.performing.release.Goals as goal
+use Rattle.bidi_script_lines.proofs.rows.release.Goals as goal
 
 pub returns-in-Ok-clause-brings : goal.returns-in-Ok-clause-brings
 returns-in-Ok-clause-brings c = λ h s.
@@ -21,10 +21,10 @@ returns-in-Ok-clause-brings c = λ h s.
       goes_on = λ lives none.
           let p = call.handed_on held is lives none in
           let sent = p.4 h s in
-          (p.0, p.1, c.of_taken.ensures ∙ (taken-of_machine taken p.3 p.2 ∙ ap OfMachine sent.0), sent.1, p.5);
+          (p.0, p.1, c.of_taken.ensures ∙ (taken-of_machine taken p.3 p.2 ∙ ap OfMachine sent.0), sent.1, sent.2, p.5);
       named = λ lives some.
           let p = call.named h held s is lives some in
-          (taken, p.1, p.2, c.of_taken.ensures, p.3);
+          (taken, p.0, p.1, p.2, c.of_taken.ensures, p.3);
       released = call.released;
     })
 

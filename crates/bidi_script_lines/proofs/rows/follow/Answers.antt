@@ -5,7 +5,7 @@ use Rattle.bidi_scripted.specs.View.{script_of}
 use Rattle.bidi_script_lines.specs.Outcomes.{OfTest}
 use Rattle.bidi_script_lines.specs.Performing.{Follows}
 use Rattle.bidi_script_lines.proofs.PerformLemmas.{no-effect, no-follower}
-use Rattle.bidi_script_lines.proofs.performing.follow.Goals as goal
+use Rattle.bidi_script_lines.proofs.rows.follow.Goals as goal
 
 pub returns-in-Ok-clause-brings : goal.returns-in-Ok-clause-brings
 returns-in-Ok-clause-brings c = λ h.
