@@ -95,7 +95,7 @@ reached first before old new done manners same runs =
 -- a host that met what came by one step has gone on
 met : {S : Step} (d : Deed) (first : ScriptedEnd) (before : List Deed) (old new : Hosted)
     → ((done more : List Deed) → Runs old.manners.is_lenient first before old.host.end done → S old.host.end new.host.end more
-        → Runs old.manners.is_lenient first before new.host.end (done ++ d ∷ more))
+    → Runs old.manners.is_lenient first before new.host.end (done ++ d ∷ more))
     → By S old new → Owes first before (d ∷ []) old → HasRun first before new
 met d first before old new runs b o =
     reached first before old new _ b.manners (follows old new o.done b.more d o.came b.adds) (runs o.done b.more o.runs b.goes)
@@ -103,7 +103,7 @@ met d first before old new runs b o =
 -- the same where one more deed, the answer, comes at the end
 met_by : {S : Step} (d answer : Deed) (first : ScriptedEnd) (before : List Deed) (old mid new : Hosted)
     → ((done more : List Deed) → Runs old.manners.is_lenient first before old.host.end done → S old.host.end new.host.end more
-        → Runs old.manners.is_lenient first before new.host.end (done ++ d ∷ (more ++ answer ∷ [])))
+    → Runs old.manners.is_lenient first before new.host.end (done ++ d ∷ (more ++ answer ∷ [])))
     → By S old mid → Does (answer ∷ []) mid new → Owes first before (d ∷ []) old → HasRun first before new
 met_by {S} d answer first before old mid new runs b does o =
     reached first before old new _ (does.0 ∙ b.manners)
@@ -159,7 +159,7 @@ called_run place first before old mid new =
 -- the deeds of a host that came to its end by some, and then did one more
 answered : (first : ScriptedEnd) (before : List Deed) (d answer : Deed) (old new : Hosted)
     → ((done : List Deed) → Runs old.manners.is_lenient first before old.host.end done
-        → Runs old.manners.is_lenient first before old.host.end (done ++ d ∷ answer ∷ []))
+    → Runs old.manners.is_lenient first before old.host.end (done ++ d ∷ answer ∷ []))
     → Does (answer ∷ []) old new → Owes first before (d ∷ []) old → HasRun first before new
 answered first before d answer old new runs does o =
     reached first before old new _ does.0 (follows old new o.done (answer ∷ []) d o.came does.2)

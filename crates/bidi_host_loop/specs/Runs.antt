@@ -34,20 +34,20 @@ abbrev pub Hears : Bool → ℕ → List ℕ → ScriptedEnd → ScriptedEnd →
 Hears is_lenient conn text old new more = (eased : List ℕ) × (said : List ℕ) × (is_lenient ≡ false → eased ≡ text) × IsSaidAs conn eased said
     × Takes (Plain (Text conn said)) old new more
 
--- the connection is not open
-abbrev pub IsClosed : ℕ → ScriptedEnd → Type 0
-IsClosed conn end = (h : List Input) → StandsFor end.end h → is_open (deeds h) conn ≡ false
+-- the connection is open, or it is not
+abbrev pub HasOpen : Bool → ℕ → ScriptedEnd → Type 0
+HasOpen truth conn end = (h : List Input) → StandsFor end.end h → is_open (deeds h) conn ≡ truth
 
 -- the command by which a host ends the session of a connection that is gone
 abbrev pub session_end : List ℕ
 session_end = codes "{\"id\":0,\"method\":\"session.end\",\"params\":{}}"
 
--- A connection is gone: the remote end is told once, unless the connection is closed already.
+-- A connection is gone: the remote end is told if the connection is still open there.
 pub data Loses (conn : ℕ) : ScriptedEnd → ScriptedEnd → List Deed → Type 0 where
   -- it is closed
-  is_closed : (end : ScriptedEnd) → IsClosed conn end → Loses conn end end []
-  -- it is dropped
-  drops : (old new : ScriptedEnd) (more : List Deed) → Takes (Plain (Drop conn)) old new more → Loses conn old new more
+  is_closed : (end : ScriptedEnd) → HasOpen false conn end → Loses conn end end []
+  -- it is open, and dropped
+  drops : (old new : ScriptedEnd) (more : List Deed) → HasOpen true conn old → Takes (Plain (Drop conn)) old new more → Loses conn old new more
   -- before that its session is ended
   ends : (old mid new : ScriptedEnd) (more rest : List Deed) → Hears false conn session_end old mid more → Loses conn mid new rest → Loses conn old new (more ++ rest)
 

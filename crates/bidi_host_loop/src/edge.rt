@@ -1,6 +1,7 @@
 //! What a host does to its record, its connections and its pages, with an account of it.
 ghost use Rattle.std.specs.Prelude.{◌≡◌, ◌∷◌, ◌++◌, [], IfOk, OnOk};
 ghost use Rattle.bidi_host_loop.specs.Deeds.{Answered, AnsweredInput, Closed, Cut, CutAfter, Handed, HandedBytes, HandedRaw, Refused, Refusing, Replied, Reported, Restarted, Resumed, Stalled, Wrote};
+ghost use Rattle.bidi_host_loop.specs.Clients.{Hands, HandsAt};
 ghost use Rattle.bidi_host_loop.specs.Deeds.{coming, entering};
 
 use crate::account::Account;
@@ -177,7 +178,8 @@ impl Edge {
 
     /// Hands a text to a connection.
     pub(crate) fn hand(&mut self, conn: JsUint, text: &str) -> Result<(), AllocError>
-        ensures { OnOk result (self.new.account.deeds ≡ self.old.account.deeds ++ Handed conn.value text.now ∷ []) }
+        ensures reaches { OnOk result (Hands conn.value text.now self.old.peers self.new.peers) }
+        ensures notes { OnOk result (self.new.account.deeds ≡ self.old.account.deeds ++ Handed conn.value text.now ∷ []) }
     {
         self.peers.send(conn, text)?;
         self.account.note(&[HANDED, conn.value], text.as_bytes());
@@ -304,7 +306,8 @@ impl Edge {
 
     /// Answers the page at a place.
     pub(crate) fn answer(&mut self, place: usize, text: &str) -> Result<(), AllocError>
-        ensures { OnOk result (self.new.account.deeds ≡ self.old.account.deeds ++ Answered place text.now ∷ []) }
+        ensures reaches { OnOk result (HandsAt place text.now self.old.peers self.new.peers) }
+        ensures notes { OnOk result (self.new.account.deeds ≡ self.old.account.deeds ++ Answered place text.now ∷ []) }
     {
         self.peers.send_to(place, text)?;
         self.account
