@@ -5,7 +5,7 @@
 use crate::hosting::Hosted;
 use crate::surroundings::Surroundings;
 use bidi_classic::{
-    CallError, END_COMMAND, Reply, Route, end_reply, error_reply, new_command, new_reply, route_of,
+    CallError, Reply, Route, end_command, end_reply, error_reply, new_command, new_reply, route_of,
 };
 use bidi_peer::Call;
 use bidi_recorder::HostingFault;
@@ -85,7 +85,7 @@ impl Hosted {
         world: &mut W,
         resource: &str,
     ) -> Result<Reply, HostingFault> {
-        let command = String::from_str(self.alloc, END_COMMAND)?;
+        let command = end_command(self.alloc)?;
         let Some(texts) = self.ask(world, resource, command)? else {
             return self.deny_end();
         };
