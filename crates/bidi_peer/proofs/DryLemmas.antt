@@ -1,5 +1,5 @@
 -- When nothing is reported, and what a flush leaves.
-use Rattle.std.proofs.Common.{◌≡◌, ◌≢◌, ◌⊎◌, ℕ, List, Result, inl, inr, refl, subst, sym}
+use Rattle.std.proofs.Common.{◌≡◌, ◌≢◌, ◌∙◌, ℕ, Result, inl, inr, refl, subst, sym}
 use Rattle.std.specs.declared.io.ErrorKind.{ErrorKind}
 use Rattle.bidi_peer.specs.Ends.{IsDry, IsUnread}
 use Rattle.bidi_peer.specs.Sending.{IsFlushed}
@@ -46,6 +46,14 @@ module _ {S : Type 0} (reads : S → Result ℕ ErrorKind → S → Type 0) wher
   -- a connection that was left, or whose stream failed
   pub left_dry : (a p : Peer S) (c : Came) → StaysUnlessFailed standing.Leaving a.state → p.state ≡ a.state → IsDry reads p c
   left_dry a p c left same = unread_dry p c (subst IsUnread (sym same) (left-unread a.state left))
+
+  -- a connection in a state in which it is not read
+  pub resting_dry : (a p : Peer S) (c : Came) (s : State) → a.state ≡ s → IsUnread s → p.state ≡ a.state → IsDry reads p c
+  resting_dry a p c s stands unread same = unread_dry p c (subst IsUnread (sym (same ∙ stands)) unread)
+
+  -- a connection that was left, and then flushed
+  pub left_then_dry : (b a p : Peer S) (c : Came) → b.state ≡ standing.Leaving → StaysUnlessFailed b.state a.state → p.state ≡ a.state → IsDry reads p c
+  left_then_dry b a p c left stays same = left_dry a p c (subst (λ s. StaysUnlessFailed s a.state) left stays) same
 
   -- something is reported
   pub said_dry : (p : Peer S) (c : Came) → c ≢ telling.Nothing → IsDry reads p c

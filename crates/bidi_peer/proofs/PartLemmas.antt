@@ -1,6 +1,7 @@
 -- How many bytes of an unfinished message the protocol keeps after a frame.
-use Rattle.std.proofs.Common.{◌≡◌, ◌∙◌, ◌++◌, ◌+◌, ◌-◌, ◌^◌, ℕ, List, Bool, true, false, cond, not, Option, None, Some, Result, Ok, Err, ap, arith, drop, length, length-append, min, refl, subst, sym}
+use Rattle.std.proofs.Common.{◌≡◌, ◌∙◌, ◌++◌, ◌+◌, ◌-◌, ◌^◌, ℕ, List, Bool, true, false, cond, not, Option, None, Some, Result, Ok, Err, ap, arith, drop, length, length-append, min, refl, subst, sym, zero-add}
 use Rattle.std.specs.Prelude.{⊤, nat_lt, slice_range}
+use Rattle.std.proofs.lemmas.Bool.{ltb-false}
 use Rattle.std.proofs.lemmas.List.{length-drop, length-take-le}
 use Rattle.websocket.specs.Connection.{Connection, Effect, can_write, check_close, check_open, check_so_far, close_step, close_to, closing_state, complete_message, consumed_with, decode_close, deliver, failed_connection, has_allowed_code, on_close, on_control, on_data, on_data_after, on_frame, on_message_bytes, on_opcode, on_short_control, read_decoded, read_step}
 use Rattle.websocket.specs.Content.{Content, binary, close, close_payload, ping, pong, text}
@@ -94,8 +95,8 @@ kept-message c n k is_final bs size = checked c n _ _ (kept-cond c n is_final _ 
 kept-data-after : (c : Connection) (was : Option (MessageType × List ℕ)) (d : Data) (is_final : Bool) (payload : List ℕ) → c.fragments ≡ was
     → Kept c (length payload) (on_data_after c was d is_final payload)
 kept-data-after c None Continue is_final payload is = tt
-kept-data-after c None Text is_final payload is = kept-message c (length payload) kind.Text is_final payload (sym (ap (λ o. payload_of o + length payload) is))
-kept-data-after c None Binary is_final payload is = kept-message c (length payload) kind.Binary is_final payload (sym (ap (λ o. payload_of o + length payload) is))
+kept-data-after c None Text is_final payload is = kept-message c (length payload) kind.Text is_final payload (sym (zero-add (length payload)) ∙ sym (ap (λ o. payload_of o + length payload) is))
+kept-data-after c None Binary is_final payload is = kept-message c (length payload) kind.Binary is_final payload (sym (zero-add (length payload)) ∙ sym (ap (λ o. payload_of o + length payload) is))
 kept-data-after c (Some p) Continue is_final payload is =
     kept-message c (length payload) p.0 is_final (p.1 ++ payload) (length-append p.1 payload ∙ sym (ap (λ o. payload_of o + length payload) is))
 kept-data-after c (Some p) Text is_final payload is = tt
@@ -124,7 +125,7 @@ framed c input h n false p is reads =
     let bytes = apply_mask_if h.mask (slice_range input k (k + n)) in
     let size : length bytes ≡ n =
     length-apply_mask_if h.mask (slice_range input k (k + n))
-    ∙ (length-take-le (k + n - k) (drop k input) (omega (arith, length-drop k input, is)) ∙ omega arith) in
+    ∙ (length-take-le (k + n - k) (drop k input) (omega (arith, length-drop k input, ltb-false (length input) (k + n) is)) ∙ omega arith) in
     subst (λ m. KeptOf c m p.1) size (consumed c (length bytes) (k + n) (on_frame c h bytes) p (kept-frame c h bytes) whole)
 
 -- what a read that completes keeps, with the length that the header says

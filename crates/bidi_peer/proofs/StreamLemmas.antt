@@ -2,8 +2,7 @@
 use Rattle.std.proofs.Common.{◌≡◌, ◌∙◌, ◌+◌, ℕ, List, [], Option, None, Some, Result, Ok, Err, inl, inr, refl, subst}
 use Rattle.std.specs.Io.KnownBytes.{Appends, Consumes, Keeps}
 use Rattle.std.specs.declared.io.ErrorKind.{ErrorKind}
-use Rattle.std.specs.declared.io.ErrorKind.TheVariants as kind
-use Rattle.bidi_peer.specs.Streams.{Answered, IsReadStop, IsStopOf, IsWriteStop, Repeats, more}
+use Rattle.bidi_peer.specs.Streams.{Interrupted, IsReadStop, IsStopOf, IsWriteStop, more}
 use Rattle.bidi_peer.specs.declared.stream.Stop.{Stop}
 use Rattle.bidi_peer.specs.declared.stream.Stop.TheVariants.{Failed, WouldBlock}
 use Rattle.bidi_peer.proofs.WaitingLemmas.{appends-then, consumes-then, keeps-appends, keeps-consumes}
@@ -37,6 +36,5 @@ module _ {S : Type 0} (calls : S → Result ℕ ErrorKind → S → Type 0) wher
   write_stopped s t u k (Failed failure) is call = inl (inl (k, is.0, is.1, (t, call)))
 
   -- one more interruption
-  pub interrupted : (s t u : S) (n : ℕ) (k : ErrorKind) → Repeats S calls (Err kind.Interrupted) s n t → IsStopOf k None → calls t (Err k) u
-      → Repeats S calls (Err kind.Interrupted) s (n + 1) u
+  pub interrupted : (s t u : S) (n : ℕ) (k : ErrorKind) → Interrupted calls s n t → IsStopOf k None → calls t (Err k) u → Interrupted calls s (n + 1) u
   interrupted s t u n k before is call = more n t u before (subst (λ e. calls t (Err e) u) is call)

@@ -24,6 +24,10 @@ pub data Repeats (S : Type 0) (calls : S → Result ℕ ErrorKind → S → Type
   more : (n : ℕ) (t u : S) → Repeats S calls answer s n t → calls t answer u → Repeats S calls answer s (n + 1) u
 
 module _ {S : Type 0} where
+  -- So many reads, or writes, in a row were interrupted.
+  abbrev pub Interrupted : (S → Result ℕ ErrorKind → S → Type 0) → S → ℕ → S → Type 0
+  Interrupted calls s n t = Repeats S calls (Err kind.Interrupted) s n t
+
   -- The last call of the stream had this answer.
   abbrev pub Answered : (S → Result ℕ ErrorKind → S → Type 0) → Result ℕ ErrorKind → S → Type 0
   Answered calls answer t = (s : S) × calls s answer t
@@ -37,7 +41,7 @@ module _ {S : Type 0} where
   IsReadStop reads s t WouldBlock = Blocked reads t
   IsReadStop reads s t (Failed failure) =
       ((k : ErrorKind) × (k ≢ kind.Interrupted) × (k ≢ kind.WouldBlock) × Answered reads (Err k) t)
-      ⊎ ((n : ℕ) × (2 ^ 64 - 1 ≤ n) × Repeats S reads (Err kind.Interrupted) s n t)
+      ⊎ ((n : ℕ) × (2 ^ 64 - 1 ≤ n) × Interrupted reads s n t)
 
   -- Why writes stopped: as reads do, or because the stream took none of the bytes, by which it failed.
   abbrev pub IsWriteStop : (S → Result ℕ ErrorKind → S → Type 0) → S → S → Stop → Type 0

@@ -140,7 +140,7 @@ impl<S: Stream> Peer<S> {
     }
 
     // Tells what came in.
-    #[tactic(auto, using(crate::proofs::DryLemmas::ended_dry, crate::proofs::DryLemmas::unread_dry))]
+    #[tactic(auto, using(crate::proofs::DryLemmas::ended_dry, crate::proofs::DryLemmas::resting_dry))]
     fn take_in_state(&mut self) -> Result<Came, AllocError>
         ensures stays_known { StaysKnown self.old.end self.new.end }
         ensures tells_once { IfOk result (TellsOnce self.old.end self.new.end) }

@@ -48,6 +48,7 @@ impl<S: Stream> Peer<S> {
 
     // Takes the next frame. Where the peer broke the protocol there are none any more. A connection whose protocol sends
     // nothing more is not open.
+    #[tactic(auto, using(crate::proofs::PartLemmas::frame_counts))]
     fn next_frame(&mut self) -> Result<Frame, AllocError>
         requires { HasEnded self.old.state → ⊥ }
         ensures end { self.new.end ≡ self.old.end }
@@ -83,7 +84,7 @@ impl<S: Stream> Peer<S> {
     }
 
     // What a frame comes to, or nothing where a further one has to be taken.
-    #[tactic(auto, using(crate::proofs::DryLemmas::left_dry))]
+    #[tactic(auto, using(crate::proofs::DryLemmas::left_then_dry))]
     fn receive(&mut self, frame: Frame) -> Result<Option<Came>, AllocError>
         requires { HasEnded self.old.state → ⊥ }
         ensures stays_known { StaysKnown self.old.end self.new.end }
@@ -155,7 +156,7 @@ impl<S: Stream> Peer<S> {
     }
 
     /// Reads the stream once. Nothing where bytes came.
-    #[tactic(auto, using(crate::proofs::HearingLemmas::ended_heard, crate::proofs::HearingLemmas::failed_heard, crate::proofs::HearingLemmas::nothing_heard, crate::proofs::HearingLemmas::owed_unknown, crate::proofs::DryLemmas::unread_dry))]
+    #[tactic(auto, using(crate::proofs::HearingLemmas::ended_heard, crate::proofs::HearingLemmas::failed_heard, crate::proofs::HearingLemmas::nothing_heard, crate::proofs::HearingLemmas::owed_unknown, crate::proofs::DryLemmas::resting_dry))]
     pub(crate) fn read_on(&mut self) -> Result<Option<Came>, AllocError>
         requires { HasEnded self.old.state → ⊥ }
         ensures waits { IfOk result (λ came. came ≡ None → self.new.state ≡ self.old.state) }

@@ -283,8 +283,9 @@ impl<S: Stream> Peer<S> {
         if self.is_cut() {
             return;
         }
-        if let Err(failure) = self.outbox.write_to(&mut self.stream) {
-            self.lose(failure);
+        match self.outbox.write_to(&mut self.stream) {
+            Ok(()) => {}
+            Err(failure) => self.lose(failure),
         }
     }
 }

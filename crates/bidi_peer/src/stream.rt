@@ -67,6 +67,7 @@ pub(crate) enum Stop {
 }
 
 /// Reads the stream, again while it is interrupted.
+#[tactic(auto, using(crate::proofs::StreamLemmas::keeps_self, crate::proofs::StreamLemmas::keeps_then, crate::proofs::StreamLemmas::consumes_later, crate::proofs::StreamLemmas::read_stopped, crate::proofs::StreamLemmas::interrupted))]
 pub(crate) fn read<S: Stream>(stream: &mut S, bytes: &mut [u8]) -> Result<usize, Stop>
     ensures bound { ReadsAtMost result bytes.new }
     ensures bytes { ReadConsumes (S.remaining stream.old) (S.remaining stream.new) result bytes.new }
@@ -86,6 +87,7 @@ pub(crate) fn read<S: Stream>(stream: &mut S, bytes: &mut [u8]) -> Result<usize,
 }
 
 /// Writes some bytes to the stream, again while it is interrupted. A stream that takes none of them has failed.
+#[tactic(auto, using(crate::proofs::StreamLemmas::keeps_self, crate::proofs::StreamLemmas::keeps_then, crate::proofs::StreamLemmas::appends_later, crate::proofs::StreamLemmas::write_stopped, crate::proofs::StreamLemmas::interrupted))]
 pub(crate) fn write<S: Stream>(stream: &mut S, bytes: &[u8]) -> Result<usize, Stop>
     requires { 0 < length bytes.now }
     ensures bound { WritesAtMost result bytes.now }
