@@ -14,3 +14,7 @@ pub record HasCapabilities (body : List ℕ) (capabilities : Json) : Type 0 wher
 -- the text of the command that asks for a session with these capabilities
 abbrev pub new_text : Json → List ℕ
 new_text capabilities = codes "{\"id\":0,\"method\":\"session.new\",\"params\":{\"capabilities\":" ++ (compact capabilities ++ codes "}}")
+
+-- the text of the command that ends the session of its connection
+abbrev pub end_text : List ℕ
+end_text = codes "{\"id\":0,\"method\":\"session.end\",\"params\":{}}"

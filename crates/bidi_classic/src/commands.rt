@@ -4,14 +4,25 @@ ghost use Rattle.json.specs.Find.{get};
 ghost use Rattle.json.specs.Json.{Json};
 ghost use Rattle.json.specs.Tree.{HasNumbers};
 ghost use Rattle.json.specs.Value.{value_view};
-ghost use Rattle.bidi_classic.specs.Commands.{HasCapabilities, new_text};
+ghost use Rattle.bidi_classic.specs.Commands.{HasCapabilities, end_text, new_text};
 
 use bidi_rows::compact;
 use json::{Error, Scratch, Value};
 use std::alloc::{AllocError, Global};
 
-/// The command that ends the session of a connection.
-pub const END_COMMAND: &str = "{\"id\":0,\"method\":\"session.end\",\"params\":{}}";
+// The command that ends the session of a connection.
+const END_COMMAND: &str = "{\"id\":0,\"method\":\"session.end\",\"params\":{}}";
+
+/// The text of the command that ends the session of a connection.
+///
+/// # Errors
+/// No memory: an allocation failed.
+pub fn end_command(alloc: Global) -> Result<String, AllocError>
+    // The result is the text of `session.end`.
+    ensures { IfOk result (λ text. string_bytes text ≡ end_text) }
+{
+    String::from_str(alloc, END_COMMAND)
+}
 
 /// The text of the command that a body asks for, if it is a JSON object with a property `capabilities`. The other
 /// properties are left out.

@@ -6,7 +6,7 @@
 //!
 //! # Calls
 //! - [`route_of`] says what a call asks for, by its method and its resource.
-//! - [`new_command`] makes the command of a body.
+//! - [`new_command`] makes the command of a body, and [`end_command`] the one that ends a session.
 //! - [`new_reply`] makes the reply of the answer to that command, and [`end_reply`] that of the answer to `session.end`.
 //! - [`error_reply`] makes the reply to a call that is not taken.
 //!
@@ -18,6 +18,6 @@ mod commands;
 mod replies;
 mod routes;
 
-pub use commands::{END_COMMAND, new_command};
+pub use commands::{end_command, new_command};
 pub use replies::{CallError, Reply, end_reply, error_reply, new_reply};
 pub use routes::{Route, route_of};

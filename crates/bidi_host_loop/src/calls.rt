@@ -9,7 +9,7 @@ ghost use Rattle.bidi_host_loop.specs.Runs.{Calls, Commands};
 use crate::hosting::Hosted;
 use crate::surroundings::Surroundings;
 use bidi_classic::{
-    CallError, END_COMMAND, Reply, Route, end_reply, error_reply, new_command, new_reply, route_of,
+    CallError, Reply, Route, end_command, end_reply, error_reply, new_command, new_reply, route_of,
 };
 use bidi_peer::{AllowedMethods, Call};
 use bidi_recorder::HostingFault;
@@ -133,7 +133,7 @@ impl Hosted {
     ) -> Result<Reply, HostingFault>
         ensures { OnOk result (By (Calls self.old.manners.is_lenient) self.old self.new) }
     {
-        let command = String::from_str(self.alloc, END_COMMAND)?;
+        let command = end_command(self.alloc)?;
         let texts = self.ask(world, resource, command)?;
         self.session_end_reply(texts)
     }

@@ -1,9 +1,12 @@
 pub mod ClosingLemmas
+pub mod DryLemmas
 pub mod HearingLemmas
 pub mod MessageLemmas
+pub mod PartLemmas
 pub mod PassedLemmas
 pub mod RoleLemmas
 pub mod SendingLemmas
+pub mod StreamLemmas
 pub mod TakingLemmas
 pub mod UnfinishedLemmas
 pub mod WaitingLemmas

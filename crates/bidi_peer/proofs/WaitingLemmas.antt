@@ -1,5 +1,5 @@
 -- What a stream takes and gives, one call after another.
-use Rattle.std.proofs.Common.{◌≡◌, ◌∙◌, ◌+◌, ◌-◌, ◌≤◌, ◌≢◌, ◌++◌, ℕ, List, [], Option, None, Some, ap, append-nil, append_assoc, arith, drop, length, sym, take}
+use Rattle.std.proofs.Common.{◌≡◌, ◌∙◌, ◌+◌, ◌-◌, ◌≤◌, ◌<◌, ◌++◌, ℕ, List, [], Option, None, Some, ap, append-nil, append_assoc, arith, drop, length, sym, take}
 use Rattle.std.proofs.Math.Seq.{take-add}
 use Rattle.std.proofs.lemmas.List.{drop-drop, drop-take, length-drop, length-take-le, take-append-drop}
 use Rattle.std.specs.Io.KnownBytes.{Appends, Consumes, Keeps}
@@ -33,10 +33,13 @@ grown-part xs start end n ordered =
 part-length : (xs : List ℕ) (start end : ℕ) → end ≤ length xs → length (slice_range xs start end) ≡ end - start
 part-length xs start end inside = length-take-le (end - start) (drop start xs) (omega (arith, length-drop start xs, inside))
 
--- a part that grows is another
-pub grows : (w xs : List ℕ) (start end n : ℕ) → start ≤ end → slice_range xs start end ≡ w → end + n ≤ length xs → (n ≡ 0 → ⊥) → slice_range xs start (end + n) ≢ w
+-- a part that grows is longer
+pub grows : (w xs : List ℕ) (start end n : ℕ) → start ≤ end → slice_range xs start end ≡ w → end + n ≤ length xs → (n ≡ 0 → ⊥) → length w < length (slice_range xs start (end + n))
 grows w xs start end n ordered was inside more =
-    λ same. more (omega (arith, ordered, part-length xs start (end + n) inside, part-length xs start end (omega (arith, inside)), ap length (same ∙ sym was)))
+    omega (arith, ordered, inside, part-length xs start (end + n) inside, part-length xs start end (omega (arith, inside)), ap length was, some n more)
+  where
+    some : (n : ℕ) → (n ≡ 0 → ⊥) → 0 < n
+    some n more = omega (arith, more)
 
 -- known bytes lose one piece and then another
 pub consumes-then : (u v w : Option (List ℕ)) (a b : List ℕ) → Consumes u v a → Consumes v w b → Consumes u w (a ++ b)
@@ -74,14 +77,14 @@ module _ {S : Type 0} (remaining : S → Option (List ℕ)) where
   reads_nothing a b s t same keeps = record { came = []; joins = same ∙ sym (append-nil a); given = keeps-consumes (remaining s) (remaining t) keeps }
 
 -- known bytes grow by one piece and then by another
-appends-then : (u v w : Option (List ℕ)) (a b : List ℕ) → Appends u v a → Appends v w b → Appends u w (a ++ b)
+pub appends-then : (u v w : Option (List ℕ)) (a b : List ℕ) → Appends u v a → Appends v w b → Appends u w (a ++ b)
 appends-then None v w a b x y = tt
 appends-then (Some xs) None w a b x y = absurd x
 appends-then (Some xs) (Some ys) None a b x y = absurd y
 appends-then (Some xs) (Some ys) (Some zs) a b x y = y ∙ ap (λ t. t ++ b) x ∙ append_assoc xs a b
 
 -- kept bytes grow by nothing
-keeps-appends : (u v : Option (List ℕ)) → Keeps u v → Appends u v []
+pub keeps-appends : (u v : Option (List ℕ)) → Keeps u v → Appends u v []
 keeps-appends None v k = tt
 keeps-appends (Some xs) None k = absurd k
 keeps-appends (Some xs) (Some ys) k = k ∙ sym (append-nil xs)

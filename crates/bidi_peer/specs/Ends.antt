@@ -1,8 +1,10 @@
 -- What a take reports of a connection that closes, that waits for an answer, or that has ended.
-use Rattle.std.specs.Prelude.{◌≡◌, ◌≤◌, ◌+◌, ◌⊎◌, ℕ, List, [], Option, true, false, ⊤, length}
+use Rattle.std.specs.Prelude.{◌≡◌, ◌≤◌, ◌+◌, ◌⊎◌, ℕ, List, [], Option, Result, true, false, ⊤, length}
+use Rattle.std.specs.declared.io.ErrorKind.{ErrorKind}
 use Rattle.std.specs.Io.KnownBytes.{IsAtEnd}
 use Rattle.websocket.specs.Connection.{Connection, can_read}
 use Rattle.bidi_peer.specs.Messages.{HasClose, HasFault, HasNoFrame, IsNoClose, Leads, Passed, Use, most_steps_of_take}
+use Rattle.bidi_peer.specs.Streams.{Blocked}
 use Rattle.bidi_peer.specs.Telling.{HasEnded, HasFailed}
 use Rattle.bidi_peer.specs.Waiting.{untaken, unwritten}
 use Rattle.bidi_peer.specs.declared.peer.Came.{Came}
@@ -26,6 +28,11 @@ IsWordless telling.Ended = ⊤
 IsWordless c = ⊥
 
 module _ {S : Type 0} where
+  -- Nothing is reported only if the last call of the stream was a read that had nothing for now, or if the connection is not read.
+  abbrev pub IsDry : (S → Result ℕ ErrorKind → S → Type 0) → Peer S → Came → Type 0
+  IsDry reads new telling.Nothing = IsUnread new.state ⊎ Blocked reads new.stream
+  IsDry reads new c = ⊤
+
   -- The caller now knows the end; nothing was read or written, and nothing else has changed.
   pub record LearnsEnd (old new : Peer S) : Type 0 where
     pub end : new.end ≡ Known

@@ -1,5 +1,6 @@
 -- What a connection sends, in frames of RFC 6455, 5.2. A server's frame has no mask.
-use Rattle.std.specs.Prelude.{◌≡◌, ◌<◌, ◌≤◌, ◌⊎◌, ◌+◌, ℕ, List, ◌++◌, length, None, Option, Some}
+use Rattle.std.specs.Prelude.{◌≡◌, ◌<◌, ◌≤◌, ◌⊎◌, ◌+◌, ℕ, List, [], ◌++◌, length, None, Option, Result, Some}
+use Rattle.std.specs.declared.io.ErrorKind.{ErrorKind}
 use Rattle.websocket.specs.Connection.{whole_header}
 use Rattle.websocket.specs.Content.{close_payload}
 use Rattle.websocket.specs.Frame.{encode_frame}
@@ -10,6 +11,7 @@ use Rattle.websocket.specs.declared.protocol.frame.coding.OpCode.TheVariants.{Co
 use Rattle.bidi_peer.specs.declared.standing.Peer.{Peer}
 use Rattle.bidi_peer.specs.declared.standing.State.TheVariants.{Closing}
 use Rattle.bidi_peer.specs.Closing.{code_of, reason_of}
+use Rattle.bidi_peer.specs.Streams.{Blocked}
 use Rattle.bidi_peer.specs.Telling.{HasFailed}
 use Rattle.bidi_peer.specs.declared.framing.Fault.TheVariants.{Slow}
 use Rattle.bidi_peer.specs.Waiting.{Writes, untaken, unwritten}
@@ -43,6 +45,10 @@ module _ {S : Type 0} where
     pub inbox : untaken new.inbox ≡ untaken old.inbox
     pub bound : new.most_waiting ≡ old.most_waiting
     pub writes : Writes contents (unwritten old.outbox) (unwritten new.outbox) old.stream new.stream
+
+  -- The stream failed, nothing waits any more, or the last call of the stream was a write that took nothing for now.
+  abbrev pub IsFlushed : (S → Result ℕ ErrorKind → S → Type 0) → Peer S → Type 0
+  IsFlushed writes new = HasFailed new.state ⊎ ((unwritten new.outbox ≡ []) ⊎ Blocked writes new.stream)
 
   -- A frame, or bytes without one, follow what waited, the stream took nothing, and the bytes that came are unchanged.
   pub record PutsFrame (frame : List ℕ) (old new : Peer S) : Type 0 where

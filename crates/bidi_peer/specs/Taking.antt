@@ -1,8 +1,10 @@
 -- What a connection makes of the frames that came. RFC 6455, 5.4 to 5.6 and 7, says what a frame does.
-use Rattle.std.specs.Prelude.{◌≡◌, ◌<◌, ◌⊎◌, ℕ, List, ◌++◌, Option, None, Some, Result, Ok, Err, drop, length, string_bytes, ⊤}
+use Rattle.std.specs.Prelude.{◌≡◌, ◌<◌, ◌+◌, ◌-◌, ◌^◌, ◌⊎◌, min, ℕ, List, ◌++◌, Option, None, Some, Result, Ok, Err, drop, length, string_bytes, ⊤}
 use Rattle.std.specs.Io.KnownBytes.{Consumes, IsAtEnd}
 use Rattle.websocket.specs.Connection.{Connection, Effect, failed_connection}
 use Rattle.websocket.specs.Content.{Content, binary, close, ping, pong, text}
+use Rattle.websocket.specs.FrameHeader.{decode_header}
+use Rattle.websocket.specs.declared.protocol.frame.header.FrameHeader.{FrameHeader}
 use Rattle.websocket.specs.declared.error.Error.{Error}
 use Rattle.websocket.specs.declared.error.Error.TheVariants.{AlreadyClosed, Capacity, ConnectionClosed, OutOfMemory, Protocol, Utf8}
 use Rattle.websocket.specs.declared.protocol.frame.codec.FrameStatus.{FrameStatus}
@@ -55,6 +57,23 @@ abbrev pub HasTaken : Result (FrameStatus (ℕ × Effect)) Error → Connection 
 HasTaken (Ok (Partial n)) c bytes waited d left waits = (d ≡ c) × (left ≡ bytes) × (waits ≡ waited)
 HasTaken (Ok (Complete p)) c bytes waited d left waits = (d ≡ p.1.next) × (left ≡ drop p.0 bytes) × (waits ≡ waited ++ reply_bytes p.1.reply)
 HasTaken (Err e) c bytes waited d left waits = (d ≡ failed_connection c) × (waits ≡ waited)
+
+-- how many bytes of payload of an unfinished message there are after a frame, if there were so many before it, as far as a number of 64 bits counts them
+abbrev pub unfinished_after : Frame → ℕ → ℕ
+unfinished_after (frame.Fragment n) before = min (before + n) (2 ^ 64 - 1)
+unfinished_after (frame.Text t) before = 0
+unfinished_after frame.NotText before = 0
+unfinished_after (frame.Bad f) before = 0
+unfinished_after f before = before
+
+-- A frame that is a part of a message has so many bytes of payload.
+abbrev pub HasPayload : ℕ → Frame → Type 0
+HasPayload n (frame.Fragment k) = k ≡ n
+HasPayload n f = ⊤
+
+-- A part of a message has as many as the header at the front of the bytes says.
+abbrev pub CountsPart : List ℕ → Frame → Type 0
+CountsPart bytes f = (h : FrameHeader) (n : ℕ) → decode_header bytes ≡ Ok (Some (h, n)) → HasPayload n f
 
 -- No frame follows this one: it is a close frame, or it fails the connection.
 abbrev pub IsLast : Frame → Type 0

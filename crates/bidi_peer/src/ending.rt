@@ -1,10 +1,11 @@
 //! How a connection ends, and how its end is told.
 ghost use Rattle.std.specs.Prelude.{◌≡◌, ◌≢◌, ◌≤◌, ◌<◌, ◌+◌, ◌-◌, ◌^◌, ◌↔◌, ◌++◌, [], length, min, IsTrue, OnErr, OnOk};
-ghost use Rattle.bidi_peer.specs.Ends.{IsWordless, LearnsEnd};
+ghost use Rattle.bidi_peer.specs.Ends.{IsDry, IsWordless, LearnsEnd};
+ghost use Rattle.bidi_peer.specs.Messages.{IsFresh};
 ghost use Rattle.bidi_peer.specs.Telling.{HasEnded, IsCut, IsInHandshake, IsQuiet, IsTimely, IsUnclosed, SameKnown, StaysKnown, StaysUnlessFailed, TellsOnce, owed};
 ghost use Rattle.bidi_peer.specs.Waiting.{untaken, unwritten};
 ghost use Rattle.bidi_peer.specs.Closing.{closing_code, code_of, reason_of};
-ghost use Rattle.bidi_peer.specs.Sending.{KeepsWhatCame, SendsClose, close_frame};
+ghost use Rattle.bidi_peer.specs.Sending.{IsFlushed, KeepsWhatCame, SendsClose, close_frame};
 ghost use Rattle.bidi_peer.specs.declared.framing.Fault.TheVariants.{Crowded};
 ghost use Rattle.bidi_peer.specs.declared.peer.Came.TheVariants.{Ended, Nothing};
 ghost use Rattle.bidi_peer.specs.declared.standing.End.TheVariants.{Due, Known};
@@ -13,12 +14,11 @@ ghost use Rattle.bidi_peer.specs.declared.standing.State.TheVariants.{Closing, D
 use super::framing::{Fault, write_close};
 use super::peer::{Came, ClosingCause, new_context};
 use super::standing::{End, Peer, State};
-use super::stream::Failure;
+use super::stream::{Failure, Stream};
 use std::alloc::AllocError;
-use std::io::{Read, Write};
 use websocket::protocol::CloseCode;
 
-impl<S: Read + Write + Drop> Peer<S> {
+impl<S: Stream> Peer<S> {
     /// Closes the connection by a close frame with an empty reason, behind what waits. What the peer sends before its
     /// own close frame is not told; a take that finds that frame, or the end of the stream, gives `Ended`. In the
     /// handshake the connection is over at once, and `Ended` is not told. Does nothing where it is closed already.
@@ -34,6 +34,8 @@ impl<S: Read + Write + Drop> Peer<S> {
         ensures closes { self.old.state ≡ Open → OnOk result (StaysUnlessFailed Closing self.new.state) }
         // The close frame follows everything that waited to be written, unless the stream failed.
         ensures sends { self.old.state ≡ Open → OnOk result (SendsClose S.contents (closing_code cause) [] self.old self.new) }
+        // What waits is written as far as the stream takes it.
+        ensures flushed { self.old.state ≡ Open → OnOk result (IsFlushed S.writes self.new) }
         // A connection in its handshake is over, and the caller knows it.
         ensures handshake { IsInHandshake self.old.state → (self.new.state ≡ Done) × (self.new.end ≡ Known) }
         // At any other time this call does not report the end.
@@ -155,7 +157,7 @@ impl<S: Read + Write + Drop> Peer<S> {
     }
 
     /// This, or the end where nothing more is read.
-    #[tactic(auto, using(crate::proofs::ClosingLemmas::end_known))]
+    #[tactic(auto, using(crate::proofs::ClosingLemmas::end_known, crate::proofs::DryLemmas::over_dry, crate::proofs::DryLemmas::said_dry))]
     pub(crate) fn or_end(&mut self, came: Came) -> Came
         requires { IsQuiet came }
         ensures same { (HasEnded self.old.state → ⊥) → (result ≡ came) × (self.new ≡ self.old) }
@@ -167,6 +169,7 @@ impl<S: Read + Write + Drop> Peer<S> {
         ensures tells_once { TellsOnce self.old.end self.new.end result }
         ensures told { HasEnded self.new.state → self.new.end ≡ Known }
         ensures timely { IsTimely self.new.state result }
+        ensures dry { came ≢ Nothing → IsDry S.reads self.new result }
     {
         if self.has_ended() {
             self.tell_end()
@@ -180,6 +183,13 @@ impl<S: Read + Write + Drop> Peer<S> {
         ensures { IsTrue result ↔ HasEnded self.now.state }
     {
         matches!(self.state, State::Leaving | State::Done | State::Failed(_))
+    }
+
+    /// Whether nothing more is read or written.
+    pub(crate) fn is_cut(&self) -> bool
+        ensures { IsTrue result ↔ IsCut self.now.state }
+    {
+        matches!(self.state, State::Done | State::Failed(_))
     }
 
     /// Ends a connection whose stream failed. The next take tells it, unless the caller knows it.
@@ -238,8 +248,22 @@ impl<S: Read + Write + Drop> Peer<S> {
         ensures forgets { (untaken self.new.inbox ≡ []) × (self.new.fragments ≡ 0) }
     {
         self.inbox.give_back();
-        self.context = new_context(self.alloc);
+        self.renew();
         let _ = self.context.end_of_input();
+    }
+
+    /// Begins the protocol anew.
+    pub(crate) fn renew(&mut self)
+        ensures fresh { IsFresh self.new.context }
+        ensures fragments { self.new.fragments ≡ 0 }
+        ensures end { self.new.end ≡ self.old.end }
+        ensures state { self.new.state ≡ self.old.state }
+        ensures stream { self.new.stream ≡ self.old.stream }
+        ensures inbox { untaken self.new.inbox ≡ untaken self.old.inbox }
+        ensures outbox { unwritten self.new.outbox ≡ unwritten self.old.outbox }
+        ensures bound { self.new.most_waiting ≡ self.old.most_waiting }
+    {
+        self.context = new_context(self.alloc);
         self.fragments = 0;
     }
 

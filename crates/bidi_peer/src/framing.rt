@@ -1,11 +1,12 @@
 //! The frame at the front of what came, and why a server fails a connection.
-ghost use Rattle.std.specs.Prelude.{◌≡◌, ◌+◌, ◌-◌, ◌^◌, ◌++◌, drop, length, min, IfOk, IfSome, OnErr, OnOk, option_map};
-ghost use Rattle.websocket.specs.FrameHeader.{extended_len};
+ghost use Rattle.std.specs.Prelude.{◌≡◌, ◌+◌, ◌-◌, ◌^◌, ◌++◌, ℕ, Ok, Some, drop, length, min, IfOk, IfSome, OnErr, OnOk, option_map};
+ghost use Rattle.websocket.specs.FrameHeader.{decode_header, extended_len};
+ghost use Rattle.websocket.specs.declared.protocol.frame.header.FrameHeader.{FrameHeader};
 ghost use Rattle.websocket.specs.declared.protocol.config.Role.TheVariants.{Server};
 ghost use Rattle.bidi_peer.specs.Sending.{bytes_frame, close_frame, text_frame};
 ghost use Rattle.websocket.specs.declared.protocol.state.WebSocketState.TheVariants.{Active};
 ghost use Rattle.websocket.specs.Connection.{read_step};
-ghost use Rattle.bidi_peer.specs.Taking.{HasTaken, IsFaultOf, IsTakenFor, Shows};
+ghost use Rattle.bidi_peer.specs.Taking.{CountsPart, HasPayload, HasTaken, IsFaultOf, IsTakenFor, Shows, unfinished_after};
 ghost use Rattle.bidi_peer.specs.Waiting.{untaken};
 ghost use Rattle.bidi_peer.specs.Closing.{code_of, reason_of};
 ghost use Rattle.websocket.specs.Content.{IsReceivedInside, HasValidText, received_content};
@@ -39,7 +40,9 @@ pub(crate) enum Frame {
 
 impl Frame {
     /// How many bytes of payload there are of an unfinished message after this frame, if there were so many before it.
-    pub(crate) fn unfinished(&self, before: usize) -> usize {
+    pub(crate) fn unfinished(&self, before: usize) -> usize
+        ensures { result ≡ unfinished_after self.now before }
+    {
         match self {
             Frame::Fragment(length) => before.saturating_add(*length),
             Frame::Text(_) | Frame::NotText | Frame::Bad(_) => 0,
@@ -100,6 +103,7 @@ pub(crate) fn read_frame(
     ensures shows { IfOk result (IsTakenFor (read_step context.old (untaken inbox.old))) }
     ensures takes { context.old.role ≡ Server → OnOk result (HasTaken (read_step context.old (untaken inbox.old)) context.old (untaken inbox.old) output.old.items context.new (untaken inbox.new) output.new.items) }
     ensures role { context.new.role ≡ context.old.role }
+    ensures counts { IfOk result (CountsPart (untaken inbox.old)) }
 {
     let input = &mut inbox.bytes[inbox.start..inbox.end];
     let (length, frame) = frame_at(alloc, context, input, output)?;
@@ -108,6 +112,7 @@ pub(crate) fn read_frame(
 }
 
 // The frame at the front of these bytes, and how many it takes.
+#[tactic(auto, using(crate::proofs::PartLemmas::part_counted))]
 fn frame_at(
     alloc: Global,
     context: &mut WebSocketContext,
@@ -117,25 +122,33 @@ fn frame_at(
     ensures shows { IfOk result (λ taken. IsTakenFor (read_step context.old input.old) taken.1) }
     ensures takes { context.old.role ≡ Server → IfOk result (λ taken. HasTaken (read_step context.old input.old) context.old input.old output.old.items context.new (drop taken.0 input.new) output.new.items) }
     ensures role { context.new.role ≡ context.old.role }
+    ensures counts { IfOk result (λ taken. CountsPart input.old taken.1) }
 {
+    let payload = payload_len(input);
     match context.read(input, output, &mut NoMask) {
         Ok(FrameStatus::Partial(_)) => Ok((0, Frame::Part)),
         Ok(FrameStatus::Complete(step)) => {
-            let frame = frame_of(alloc, &step.message, input)?;
+            let frame = frame_of(alloc, &step.message, payload, input)?;
             Ok((step.consumed, frame))
         }
         Err(error) => Ok((0, Frame::Bad(fault_of(error)?))),
     }
 }
 
-// What a frame gave.
-fn frame_of(alloc: Global, message: &Option<Received>, input: &[u8]) -> Result<Frame, AllocError>
+// What a frame gave whose payload has so many bytes.
+fn frame_of(
+    alloc: Global,
+    message: &Option<Received>,
+    payload: usize,
+    input: &[u8],
+) -> Result<Frame, AllocError>
     requires inside { IfSome message.now (IsReceivedInside input.now) }
     requires text { IfSome message.now (λ m. HasValidText (received_content input.now m)) }
-    ensures { IfOk result (Shows (option_map (received_content input.now) message.now)) }
+    ensures shows { IfOk result (Shows (option_map (received_content input.now) message.now)) }
+    ensures payload { IfOk result (HasPayload payload) }
 {
     let Some(received) = message else {
-        return Ok(Frame::Fragment(payload_len(input)));
+        return Ok(Frame::Fragment(payload));
     };
     match received.message(input) {
         Message::Text(text) => Ok(Frame::Text(String::from_str(alloc, text)?)),
@@ -145,8 +158,10 @@ fn frame_of(alloc: Global, message: &Option<Received>, input: &[u8]) -> Result<F
     }
 }
 
-// How many bytes of payload the frame at the front of these bytes has.
-fn payload_len(input: &[u8]) -> usize {
+// How many bytes of payload the frame at the front of these bytes has, if its header is whole.
+fn payload_len(input: &[u8]) -> usize
+    ensures { (h : FrameHeader) (n : ℕ) → decode_header input.now ≡ Ok (Some (h, n)) → result ≡ n }
+{
     match FrameHeader::parse(input) {
         Ok(Some((_, length))) => length as usize,
         Ok(None) | Err(_) => 0,
@@ -209,6 +224,7 @@ pub(crate) fn write_close(
     ensures role { context.new.role ≡ context.old.role }
     ensures joins { OnOk result (context.old.role ≡ Server → context.old.state ≡ Active → output.new.items ≡ output.old.items ++ close_frame code reason.now) }
     ensures err { OnErr result (context.new ≡ context.old) }
+    ensures part { context.new.fragments ≡ context.old.fragments }
 {
     let frame = CloseFrame { code, reason };
     match context.close(Some(frame), output, &mut NoMask) {

@@ -1,9 +1,11 @@
 //! The request of a connection, and the answer.
 ghost use Rattle.std.specs.Prelude.{◌≡◌, ◌≢◌, ◌⊎◌, ◌++◌, IfOk, IfSome, OnErr, OnOk};
 ghost use Rattle.bidi_requests.specs.Answering.{answer_bytes, reply_bytes};
+ghost use Rattle.bidi_peer.specs.Ends.{IsDry};
 ghost use Rattle.bidi_peer.specs.Hearing.{IsHeard, Receives};
 ghost use Rattle.bidi_peer.specs.Messages.{IsFresh};
 ghost use Rattle.bidi_requests.specs.Requests.{IsAskedBy, IsUnfinished};
+ghost use Rattle.bidi_peer.specs.Sending.{IsFlushed};
 ghost use Rattle.bidi_peer.specs.Waiting.{Writes, untaken, unwritten};
 ghost use Rattle.bidi_requests.specs.declared.answering.Answer.TheVariants.{Refused};
 ghost use Rattle.bidi_peer.specs.Telling.{HasEnded, HasFailed, IsAsked, IsCalled, IsTimely, MayTell, SameKnown, StaysKnown, StaysUnlessFailed, TellsOnce};
@@ -11,14 +13,14 @@ ghost use Rattle.bidi_peer.specs.declared.peer.Came.TheVariants.{Nothing};
 ghost use Rattle.bidi_peer.specs.declared.standing.End.TheVariants.{Ahead, Known};
 ghost use Rattle.bidi_peer.specs.declared.standing.State.TheVariants.{Leaving, Open};
 
-use super::peer::{Came, new_context};
+use super::peer::Came;
 use super::standing::{End, Peer, State};
+use super::stream::Stream;
 use bidi_requests::{Answer, Asked, ReplyStatus, RequestRefusal, asked_by, is_to_judge};
 use std::alloc::AllocError;
-use std::io::{Read, Write};
 use websocket::handshake::server::write_response;
 
-impl<S: Read + Write + Drop> Peer<S> {
+impl<S: Stream> Peer<S> {
     /// Reads until a request is whole, or its head if it asks for a WebSocket.
     #[tactic(auto, using(crate::proofs::HearingLemmas::heard_then, crate::proofs::HearingLemmas::receives_then, crate::proofs::HearingLemmas::receives_nothing))]
     pub(crate) fn read_request(&mut self) -> Result<Came, AllocError>
@@ -29,8 +31,9 @@ impl<S: Read + Write + Drop> Peer<S> {
         ensures told { OnOk result (HasEnded self.new.state → self.new.end ≡ Known) }
         ensures timely { IfOk result (IsTimely self.new.state) }
         ensures heard { self.old.end ≡ Ahead → IfOk result (IsHeard S.remaining S.contents self.old self.new) }
+        ensures dry { IfOk result (IsDry S.reads self.new) }
     {
-        for _ in 0..usize::MAX {
+        loop {
             let known = self.inbox.waiting().len();
             if let Some(came) = self.read_on()? {
                 return Ok(came);
@@ -42,11 +45,10 @@ impl<S: Read + Write + Drop> Peer<S> {
                 }
             }
         }
-        Ok(Came::Nothing)
     }
 
     // What a request comes to, or nothing where more of it has to be read.
-    #[tactic(auto, using(crate::proofs::HearingLemmas::answer_heard, crate::proofs::HearingLemmas::owed_unknown))]
+    #[tactic(auto, using(crate::proofs::HearingLemmas::answer_heard, crate::proofs::HearingLemmas::owed_unknown, crate::proofs::DryLemmas::left_dry))]
     fn hear(&mut self, asked: Asked) -> Result<Option<Came>, AllocError>
         requires reads { HasEnded self.old.state → ⊥ }
         requires ahead { self.old.end ≡ Ahead }
@@ -57,6 +59,8 @@ impl<S: Read + Write + Drop> Peer<S> {
         ensures timely { IfOk result (λ came. IfSome came (IsTimely self.new.state)) }
         ensures heard { self.old.end ≡ Ahead → IfOk result (λ came. IfSome came (IsHeard S.remaining S.contents self.old self.new)) }
         ensures part { IfOk result (λ came. came ≡ None → Receives S.remaining self.old self.new) }
+        ensures dry { IfOk result (λ came. IfSome came (IsDry S.reads self.new)) }
+        ensures rests { IfOk result (λ came. came ≡ None → untaken self.new.inbox ≡ untaken self.old.inbox) }
         ensures speaks { self.old.end ≡ Ahead → IfOk result (λ came. came ≢ Some Nothing) }
         ensures unfinished { IfOk result (λ came. came ≡ None → IsUnfinished self.new.least (untaken self.new.inbox)) }
     {
@@ -96,6 +100,7 @@ impl<S: Read + Write + Drop> Peer<S> {
         ensures known { SameKnown self.old.end self.new.end }
         ensures ok { OnOk result (StaysUnlessFailed Leaving self.new.state) }
         ensures err { OnErr result (self.new.state ≡ self.old.state) }
+        ensures flushed { OnOk result (IsFlushed S.writes self.new) }
         ensures writes { OnOk result (HasFailed self.new.state ⊎ Writes S.contents (unwritten self.old.outbox ++ answer_bytes answer) (unwritten self.new.outbox) self.old.stream self.new.stream) }
     {
         let text = answer.text(self.alloc)?;
@@ -108,6 +113,7 @@ impl<S: Read + Write + Drop> Peer<S> {
         ensures known { SameKnown self.old.end self.new.end }
         ensures ok { OnOk result (StaysUnlessFailed Leaving self.new.state) }
         ensures err { OnErr result (self.new.state ≡ self.old.state) }
+        ensures flushed { OnOk result (IsFlushed S.writes self.new) }
         ensures writes { OnOk result (HasFailed self.new.state ⊎ Writes S.contents (unwritten self.old.outbox ++ text.now) (unwritten self.new.outbox) self.old.stream self.new.stream) }
     {
         self.outbox.put(text.as_bytes())?;
@@ -129,6 +135,8 @@ impl<S: Read + Write + Drop> Peer<S> {
         ensures else_same { (IsAsked self.old.state → ⊥) → self.new ≡ self.old }
         // If a request waited, the connection is now open, unless its stream failed.
         ensures ok { IsAsked self.old.state → OnOk result (StaysUnlessFailed Open self.new.state) }
+        // What waits is written as far as the stream takes it.
+        ensures flushed { IsAsked self.old.state → OnOk result (IsFlushed S.writes self.new) }
         // An open connection starts with a fresh protocol and with the bytes that came after the request.
         ensures begins { IsAsked self.old.state → OnOk result (self.new.state ≡ Open → IsFresh self.new.context × (untaken self.new.inbox ≡ untaken self.old.inbox)) }
         // After an error the state is unchanged.
@@ -140,7 +148,7 @@ impl<S: Read + Write + Drop> Peer<S> {
         if write_response(&accept, &[], &mut self.outbox.second).is_err() {
             return Err(AllocError);
         }
-        self.context = new_context(self.alloc);
+        self.renew();
         self.state = State::Open;
         self.flush();
         Ok(())
@@ -160,6 +168,8 @@ impl<S: Read + Write + Drop> Peer<S> {
         ensures ok { IsAsked self.old.state → OnOk result (StaysUnlessFailed Leaving self.new.state × (self.new.end ≡ Known)) }
         // After an error the state is unchanged.
         ensures err { OnErr result (self.new.state ≡ self.old.state) }
+        // What waits is written as far as the stream takes it.
+        ensures flushed { IsAsked self.old.state → OnOk result (IsFlushed S.writes self.new) }
         // The bytes of the answer follow what waited to be written, unless the stream failed.
         ensures answers { IsAsked self.old.state → OnOk result (HasFailed self.new.state ⊎ Writes S.contents (unwritten self.old.outbox ++ answer_bytes (Refused refusal)) (unwritten self.new.outbox) self.old.stream self.new.stream) }
     {
@@ -170,6 +180,7 @@ impl<S: Read + Write + Drop> Peer<S> {
         self.end = End::Known;
         Ok(())
     }
+
     /// Replies to a call that was told by [`Came::Calls`], by a JSON text: the connection then ends, and [`Came::Ended`]
     /// is not told. Does nothing at any other time.
     ///
@@ -184,6 +195,8 @@ impl<S: Read + Write + Drop> Peer<S> {
         ensures ok { IsCalled self.old.state → OnOk result (StaysUnlessFailed Leaving self.new.state × (self.new.end ≡ Known)) }
         // After an error the state is unchanged.
         ensures err { OnErr result (self.new.state ≡ self.old.state) }
+        // What waits is written as far as the stream takes it.
+        ensures flushed { IsCalled self.old.state → OnOk result (IsFlushed S.writes self.new) }
         // The bytes of the reply follow what waited to be written, unless the stream failed.
         ensures answers { IsCalled self.old.state → OnOk result (HasFailed self.new.state ⊎ Writes S.contents (unwritten self.old.outbox ++ reply_bytes status json.now) (unwritten self.new.outbox) self.old.stream self.new.stream) }
     {

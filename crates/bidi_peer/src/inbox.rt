@@ -1,13 +1,13 @@
 //! Bytes that came and were not taken yet.
-ghost use Rattle.std.specs.Prelude.{◌≡◌, ◌≤◌, ◌<◌, ◌+◌, [], drop, length, take, vec_len, IfOk, OnErr, OnOk};
+ghost use Rattle.std.specs.Prelude.{◌≡◌, ◌≤◌, ◌<◌, ◌+◌, [], drop, length, take, vec_len, IfErr, IfOk, OnErr, OnOk};
 ghost use Rattle.std.specs.Io.KnownBytes.{Consumes, IsAtEnd, Keeps};
+ghost use Rattle.bidi_peer.specs.Streams.{Blocked, IsReadStop};
 ghost use Rattle.bidi_peer.specs.Waiting.{IsFilled, Reads, held_in, untaken};
 
 use super::counting::counted;
-use super::stream::{Failure, Stop, read};
+use super::stream::{Failure, Stop, Stream, read};
 use super::waiting::Inbox;
 use std::alloc::{AllocError, Global};
-use std::io::Read;
 
 /// How many bytes a read asks for at least.
 const LEAST_ROOM: usize = 4 * 1024;
@@ -85,29 +85,26 @@ impl Inbox {
         }
     }
 
-    /// Reads the stream once.
-    pub(crate) fn fill<S: Read>(&mut self, stream: &mut S) -> Result<Filled, AllocError>
+    /// Reads the stream, again while it is interrupted.
+    pub(crate) fn fill<S: Stream>(&mut self, stream: &mut S) -> Result<Filled, AllocError>
         ensures reads { Reads S.remaining (untaken self.old) (untaken self.new) stream.old stream.new }
         ensures filled { IfOk result (IsFilled (S.remaining stream.new) (untaken self.old) (untaken self.new)) }
+        ensures dry { IfOk result (λ filled. filled ≡ Filled.Nothing → Blocked S.reads stream.new) }
     {
         self.make_room()?;
-        for _ in 0..usize::MAX {
-            match self.read_once(stream) {
-                Ok(0) => return Ok(Filled::Ended),
-                Ok(count) => {
-                    self.end += count;
-                    return Ok(Filled::Some);
-                }
-                Err(Stop::Interrupted) => {}
-                Err(Stop::WouldBlock) => return Ok(Filled::Nothing),
-                Err(Stop::Failed(failure)) => return Ok(Filled::Failed(failure)),
+        match self.read_once(stream) {
+            Ok(0) => Ok(Filled::Ended),
+            Ok(count) => {
+                self.end += count;
+                Ok(Filled::Some)
             }
+            Err(Stop::WouldBlock) => Ok(Filled::Nothing),
+            Err(Stop::Failed(failure)) => Ok(Filled::Failed(failure)),
         }
-        Ok(Filled::Nothing)
     }
 
-    // Reads the stream once into the room behind what waits.
-    fn read_once<S: Read>(&mut self, stream: &mut S) -> Result<usize, Stop>
+    // Reads the stream into the room behind what waits.
+    fn read_once<S: Stream>(&mut self, stream: &mut S) -> Result<usize, Stop>
         requires { self.old.end < vec_len self.old.bytes }
         ensures same { untaken self.new ≡ untaken self.old }
         ensures end_stays { self.new.end ≡ self.old.end }
@@ -116,6 +113,7 @@ impl Inbox {
         ensures ok { IfOk result (λ count. Consumes (S.remaining stream.old) (S.remaining stream.new) (take count (drop self.new.end self.new.bytes.items))) }
         ensures end { IfOk result (λ count. count ≡ 0 → IsAtEnd (S.remaining stream.new)) }
         ensures err { OnErr result (Keeps (S.remaining stream.old) (S.remaining stream.new)) }
+        ensures stops { IfErr result (IsReadStop S.reads stream.old stream.new) }
     {
         read_behind(stream, self.bytes.as_mut_slice(), self.end)
     }
@@ -147,14 +145,15 @@ impl Inbox {
     }
 }
 
-// Reads the stream once into the bytes from `start` on.
-fn read_behind<S: Read>(stream: &mut S, bytes: &mut [u8], start: usize) -> Result<usize, Stop>
+// Reads the stream into the bytes from `start` on.
+fn read_behind<S: Stream>(stream: &mut S, bytes: &mut [u8], start: usize) -> Result<usize, Stop>
     requires { start < length bytes.old }
     ensures front { take start bytes.new ≡ take start bytes.old }
     ensures fits { IfOk result (λ count. start + count ≤ length bytes.new) }
     ensures ok { IfOk result (λ count. Consumes (S.remaining stream.old) (S.remaining stream.new) (take count (drop start bytes.new))) }
     ensures end { IfOk result (λ count. count ≡ 0 → IsAtEnd (S.remaining stream.new)) }
     ensures err { OnErr result (Keeps (S.remaining stream.old) (S.remaining stream.new)) }
+    ensures stops { IfErr result (IsReadStop S.reads stream.old stream.new) }
 {
     read(stream, &mut bytes[start..])
 }

@@ -30,3 +30,4 @@ mod waiting;
 pub use bidi_requests::{AllowedMethods, Call, Method, ReplyStatus, RequestRefusal};
 pub use peer::{Came, ClosingCause, MOST_WAITING};
 pub use standing::Peer;
+pub use stream::Stream;

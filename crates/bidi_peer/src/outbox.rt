@@ -1,12 +1,12 @@
 //! Bytes that wait to be written.
-ghost use Rattle.std.specs.Prelude.{◌≡◌, ◌<◌, ◌↔◌, ◌-◌, ◌^◌, ◌++◌, [], drop, length, min, IsTrue, OnOk};
+ghost use Rattle.std.specs.Prelude.{◌≡◌, ◌<◌, ◌↔◌, ◌⊎◌, ◌-◌, ◌^◌, ◌++◌, [], drop, length, min, IsFalse, IsTrue, OnOk};
+ghost use Rattle.bidi_peer.specs.Streams.{Blocked};
 ghost use Rattle.bidi_peer.specs.Waiting.{Writes, held_out, unwritten};
 
 use super::counting::{KEPT, counted};
-use super::stream::{Failure, Stop, write};
+use super::stream::{Failure, Stop, Stream, write};
 use super::waiting::Outbox;
 use std::alloc::{AllocError, Global};
-use std::io::Write;
 use std::mem;
 
 impl Outbox {
@@ -79,16 +79,13 @@ impl Outbox {
     ///
     /// # Errors
     /// The stream failed.
-    pub(crate) fn write_to<S: Write>(&mut self, stream: &mut S) -> Result<(), Failure>
-        ensures { Writes S.contents (unwritten self.old) (unwritten self.new) stream.old stream.new }
+    pub(crate) fn write_to<S: Stream>(&mut self, stream: &mut S) -> Result<(), Failure>
+        ensures writes { Writes S.contents (unwritten self.old) (unwritten self.new) stream.old stream.new }
+        ensures rests { OnOk result ((unwritten self.new ≡ []) ⊎ Blocked S.writes stream.new) }
     {
-        for _ in 0..usize::MAX {
-            if !self.has_first() {
-                return Ok(());
-            }
+        while self.has_first() {
             match write(stream, self.rest()) {
                 Ok(count) => self.sent += count,
-                Err(Stop::Interrupted) => {}
                 Err(Stop::WouldBlock) => return Ok(()),
                 Err(Stop::Failed(failure)) => return Err(failure),
             }
@@ -107,6 +104,7 @@ impl Outbox {
     fn has_first(&mut self) -> bool
         ensures same { unwritten self.new ≡ unwritten self.old }
         ensures some { IsTrue result → 0 < length (drop self.new.sent self.new.first.items) }
+        ensures none { IsFalse result → unwritten self.new ≡ [] }
     {
         if self.sent == self.first.len() {
             self.sent = 0;

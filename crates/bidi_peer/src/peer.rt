@@ -2,7 +2,7 @@
 ghost use Rattle.std.specs.Prelude.{◌≡◌, ◌≢◌, ◌↔◌, ◌+◌, ◌-◌, ◌^◌, [], min, length, IfOk, IsTrue, Ok, OnErr, OnOk};
 ghost use Rattle.websocket.specs.declared.protocol.config.Role.TheVariants.{Server};
 ghost use Rattle.bidi_peer.specs.Closing.{closing_code};
-ghost use Rattle.bidi_peer.specs.Ends.{IsClosing, IsUnread, IsWordless, LearnsEnd};
+ghost use Rattle.bidi_peer.specs.Ends.{IsClosing, IsDry, IsUnread, IsWordless, LearnsEnd};
 ghost use Rattle.bidi_peer.specs.Hearing.{IsHeard};
 ghost use Rattle.bidi_peer.specs.Messages.{IsFresh, IsTold};
 ghost use Rattle.bidi_peer.specs.Telling.{HasEnded, IsCut, IsNew, IsOver, IsTimely, StaysKnown, TellsOnce};
@@ -12,10 +12,10 @@ ghost use Rattle.bidi_peer.specs.declared.standing.End.TheVariants.{Ahead, Due, 
 ghost use Rattle.bidi_peer.specs.declared.standing.State.TheVariants.{Closing, Done, Open};
 
 use super::standing::{End, Peer, State};
+use super::stream::Stream;
 use super::waiting::{Inbox, Outbox};
 use bidi_requests::Call;
 use std::alloc::{AllocError, Global};
-use std::io::{Read, Write};
 use websocket::protocol::{CloseCode, Role, WebSocketConfig, WebSocketContext};
 
 /// How many bytes of frames may wait to be written, unless [`Peer::with_bound`] says otherwise: 64 MiB.
@@ -54,7 +54,7 @@ pub enum ClosingCause {
     Code(u16),
 }
 
-impl<S: Read + Write + Drop> Peer<S> {
+impl<S: Stream> Peer<S> {
     /// A connection whose client has asked for nothing yet. At most [`MOST_WAITING`] bytes wait to be written. Takes
     /// no memory.
     pub fn new(alloc: Global, stream: S) -> Peer<S>
@@ -127,6 +127,8 @@ impl<S: Read + Write + Drop> Peer<S> {
         ensures closing { self.old.state ≡ Closing → self.old.end ≡ Ahead → IfOk result (IsClosing S.remaining S.contents self.old self.new) }
         // A closing connection reports no request and no message.
         ensures wordless { self.old.state ≡ Closing → IfOk result IsWordless }
+        // `Nothing` is reported only if the last call of the stream was a read that had nothing for now, or if the connection is not read.
+        ensures dry { IfOk result (IsDry S.reads self.new) }
         // After a failed allocation nothing more is read or written.
         ensures err { OnErr result (self.new.state ≡ Done) }
     {
@@ -138,6 +140,7 @@ impl<S: Read + Write + Drop> Peer<S> {
     }
 
     // Tells what came in.
+    #[tactic(auto, using(crate::proofs::DryLemmas::ended_dry, crate::proofs::DryLemmas::resting_dry))]
     fn take_in_state(&mut self) -> Result<Came, AllocError>
         ensures stays_known { StaysKnown self.old.end self.new.end }
         ensures tells_once { IfOk result (TellsOnce self.old.end self.new.end) }
@@ -149,6 +152,7 @@ impl<S: Read + Write + Drop> Peer<S> {
         ensures rests { IsUnread self.old.state → self.old.end ≢ Due → (result ≡ Ok Nothing) × (self.new ≡ self.old) }
         ensures closing { self.old.state ≡ Closing → self.old.end ≡ Ahead → IfOk result (IsClosing S.remaining S.contents self.old self.new) }
         ensures wordless { self.old.state ≡ Closing → IfOk result IsWordless }
+        ensures dry { IfOk result (IsDry S.reads self.new) }
     {
         if self.end == End::Due {
             return Ok(self.tell_end());

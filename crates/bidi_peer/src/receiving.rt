@@ -1,7 +1,7 @@
 //! What a connection takes of the bytes that come: frames, and the messages in them.
 ghost use Rattle.std.specs.Prelude.{◌≡◌, ◌≢◌, ◌<◌, ◌⊎◌, [], length, false, true, IfOk, IfSome, Ok, OnOk};
 ghost use Rattle.websocket.specs.Connection.{can_read, read_step};
-ghost use Rattle.bidi_peer.specs.Ends.{IsClosing, IsWordless};
+ghost use Rattle.bidi_peer.specs.Ends.{IsClosing, IsDry, IsWordless};
 ghost use Rattle.bidi_peer.specs.Hearing.{IsHeard, Receives};
 ghost use Rattle.bidi_peer.specs.Messages.{IsTold};
 ghost use Rattle.bidi_peer.specs.Taking.{HasTaken, IsLast, IsPassed, IsReceived, IsTakenFor, IsWaited};
@@ -14,15 +14,15 @@ ghost use Rattle.bidi_peer.specs.declared.standing.State.TheVariants.{Closing, O
 
 use super::framing::{Fault, Frame, read_frame};
 use super::inbox::Filled;
-use super::peer::Came;
+use super::peer::{Came, new_context};
 use super::standing::{End, Peer, State};
+use super::stream::Stream;
 use std::alloc::AllocError;
-use std::io::{Read, Write};
 
 /// How many reads and frames one take is at most.
 const MOST_STEPS: u32 = 1024;
 
-impl<S: Read + Write + Drop> Peer<S> {
+impl<S: Stream> Peer<S> {
     /// Takes frames until one is for the caller, or there is none for now, or others should have their turn.
     pub(crate) fn read_messages(&mut self) -> Result<Came, AllocError>
         ensures stays_known { StaysKnown self.old.end self.new.end }
@@ -32,6 +32,7 @@ impl<S: Read + Write + Drop> Peer<S> {
         ensures messages { self.old.state ≡ Open → self.old.end ≢ Known → IfOk result (IsTold S.remaining S.contents self.old self.new) }
         ensures closing { self.old.state ≡ Closing → self.old.end ≢ Known → IfOk result (IsClosing S.remaining S.contents self.old self.new) }
         ensures wordless { self.old.state ≢ Open → IfOk result IsWordless }
+        ensures dry { IfOk result (IsDry S.reads self.new) }
     {
         for _ in 0..MOST_STEPS {
             if self.has_ended() {
@@ -47,6 +48,7 @@ impl<S: Read + Write + Drop> Peer<S> {
 
     // Takes the next frame. Where the peer broke the protocol there are none any more. A connection whose protocol sends
     // nothing more is not open.
+    #[tactic(auto, using(crate::proofs::PartLemmas::frame_counts))]
     fn next_frame(&mut self) -> Result<Frame, AllocError>
         requires { HasEnded self.old.state → ⊥ }
         ensures end { self.new.end ≡ self.old.end }
@@ -69,15 +71,20 @@ impl<S: Read + Write + Drop> Peer<S> {
             &mut self.inbox,
             &mut self.outbox.second,
         );
+        let Ok(frame) = frame else {
+            self.context = new_context(self.alloc);
+            self.fragments = 0;
+            return Err(AllocError);
+        };
+        self.fragments = frame.unfinished(self.fragments);
         if matches!(self.state, State::Open) && !self.context.can_write() {
             self.state = State::Closing;
         }
-        let frame = frame?;
-        self.fragments = frame.unfinished(self.fragments);
         Ok(frame)
     }
 
     // What a frame comes to, or nothing where a further one has to be taken.
+    #[tactic(auto, using(crate::proofs::DryLemmas::left_then_dry))]
     fn receive(&mut self, frame: Frame) -> Result<Option<Came>, AllocError>
         requires { HasEnded self.old.state → ⊥ }
         ensures stays_known { StaysKnown self.old.end self.new.end }
@@ -87,6 +94,7 @@ impl<S: Read + Write + Drop> Peer<S> {
         ensures wordless { self.old.state ≢ Open → IfOk result (λ came. IfSome came IsWordless) }
         ensures shut { self.old.state ≢ Open → IfOk result (λ came. came ≡ None → self.new.state ≢ Open) }
         ensures passes { self.old.state ≡ Closing → self.old.end ≢ Known → IfOk result (IsPassed S.remaining S.contents frame self.old self.new) }
+        ensures dry { IfOk result (λ came. IfSome came (IsDry S.reads self.new)) }
         ensures received { IsLast frame ⊎ (self.old.state ≡ Open) → self.old.end ≢ Known → IfOk result (IsReceived S.remaining S.contents frame self.old self.new) }
     {
         match frame {
@@ -115,6 +123,7 @@ impl<S: Read + Write + Drop> Peer<S> {
         ensures timely { IfOk result (λ came. IfSome came (IsTimely self.new.state)) }
         ensures goes_on { self.old.end ≢ Known → IfOk result (λ came. came ≡ None → self.new ≡ self.old) }
         ensures wordless { IfOk result (λ came. IfSome came IsWordless) }
+        ensures dry { IfOk result (λ came. IfSome came (IsDry S.reads self.new)) }
         ensures rests { self.old.state ≢ Open → (result ≡ Ok None) × (self.new ≡ self.old) }
         ensures slow { self.old.end ≢ Known → IfOk result (λ came. IfSome came (λ told. (told ≡ Ended) × (self.old.state ≡ Open) × (self.old.most_waiting < length (unwritten self.old.outbox)))) }
     {
@@ -126,6 +135,7 @@ impl<S: Read + Write + Drop> Peer<S> {
     }
 
     // Sends a close frame for a fault, and tells the end if the caller does not know it.
+    #[tactic(auto, using(crate::proofs::DryLemmas::ended_dry))]
     fn fail(&mut self, fault: Fault) -> Result<Option<Came>, AllocError>
         requires { HasEnded self.old.state → ⊥ }
         ensures stays_known { StaysKnown self.old.end self.new.end }
@@ -134,6 +144,7 @@ impl<S: Read + Write + Drop> Peer<S> {
         ensures timely { IfOk result (λ came. IfSome came (IsTimely self.new.state)) }
         ensures ended { self.old.end ≢ Known → IfOk result (λ came. came ≡ Some Ended) }
         ensures wordless { IfOk result (λ came. IfSome came IsWordless) }
+        ensures dry { IfOk result (λ came. IfSome came (IsDry S.reads self.new)) }
         ensures shut { OnOk result (self.new.state ≢ Open) }
     {
         self.put_close(fault.code(), fault.reason())?;
@@ -145,7 +156,7 @@ impl<S: Read + Write + Drop> Peer<S> {
     }
 
     /// Reads the stream once. Nothing where bytes came.
-    #[tactic(auto, using(crate::proofs::HearingLemmas::ended_heard, crate::proofs::HearingLemmas::failed_heard, crate::proofs::HearingLemmas::nothing_heard, crate::proofs::HearingLemmas::owed_unknown))]
+    #[tactic(auto, using(crate::proofs::HearingLemmas::ended_heard, crate::proofs::HearingLemmas::failed_heard, crate::proofs::HearingLemmas::nothing_heard, crate::proofs::HearingLemmas::owed_unknown, crate::proofs::DryLemmas::resting_dry))]
     pub(crate) fn read_on(&mut self) -> Result<Option<Came>, AllocError>
         requires { HasEnded self.old.state → ⊥ }
         ensures waits { IfOk result (λ came. came ≡ None → self.new.state ≡ self.old.state) }
@@ -157,6 +168,8 @@ impl<S: Read + Write + Drop> Peer<S> {
         ensures heard { self.old.end ≡ Ahead → IfOk result (λ came. IfSome came (IsHeard S.remaining S.contents self.old self.new)) }
         ensures receives { IfOk result (λ came. came ≡ None → Receives S.remaining self.old self.new) }
         ensures wordless { IfOk result (λ came. IfSome came IsWordless) }
+        ensures dry { IfOk result (λ came. IfSome came (IsDry S.reads self.new)) }
+        ensures grows { IfOk result (λ came. came ≡ None → length (untaken self.old.inbox) < length (untaken self.new.inbox)) }
         ensures waited { self.old.end ≢ Known → IfOk result (λ came. IfSome came (IsWaited S.remaining self.old self.new)) }
     {
         match self.inbox.fill(&mut self.stream)? {

@@ -1,19 +1,19 @@
 //! What a connection sends: texts, as far as there is room and the stream takes them.
 ghost use Rattle.std.specs.Prelude.{◌≡◌, ◌≢◌, ◌≤◌, ◌<◌, ◌⊎◌, ◌+◌, length, take, IsFalse, IsTrue, OnErr, OnOk};
-ghost use Rattle.bidi_peer.specs.Sending.{Flushes, HasNoRoom, IsLittle, KeepsWhatCame, Puts, PutsFrame, Sends, SendsBytes, SendsText, bytes_frame, text_frame, write_from};
+ghost use Rattle.bidi_peer.specs.Sending.{Flushes, HasNoRoom, IsFlushed, IsLittle, KeepsWhatCame, Puts, PutsFrame, Sends, SendsBytes, SendsText, bytes_frame, text_frame, write_from};
 ghost use Rattle.bidi_peer.specs.Telling.{HasFailed, SameKnown, StaysUnlessFailed};
 ghost use Rattle.bidi_peer.specs.Waiting.{unwritten};
 ghost use Rattle.bidi_peer.specs.declared.standing.State.TheVariants.{Leaving, Open};
 
 use super::framing::{Fault, bytes_frame_len, frame_len, write_bytes, write_text};
 use super::standing::{Peer, State};
+use super::stream::Stream;
 use std::alloc::AllocError;
-use std::io::{Read, Write};
 
 /// From how many bytes on a text is written at once.
 const MUCH: usize = 64 * 1024;
 
-impl<S: Read + Write + Drop> Peer<S> {
+impl<S: Stream> Peer<S> {
     /// Sends a text in one frame: it waits for [`Peer::flush`], so that several go out in one write, or is written at
     /// once where 64 KiB wait. Does nothing where the connection is not open.
     ///
@@ -269,6 +269,7 @@ impl<S: Read + Write + Drop> Peer<S> {
     }
 
     /// Writes what waits, as far as the stream takes it. Call it when the stream can be written again.
+    #[tactic(auto, using(crate::proofs::DryLemmas::cut_flushed))]
     pub fn flush(&mut self)
         // The call does not report the end.
         ensures known { SameKnown self.old.end self.new.end }
@@ -276,12 +277,15 @@ impl<S: Read + Write + Drop> Peer<S> {
         ensures state { StaysUnlessFailed self.old.state self.new.state }
         // Unless the stream failed, it took bytes off the front of what waited, and the rest still waits.
         ensures flushes { HasFailed self.new.state ⊎ Flushes S.contents self.old self.new }
+        // Afterwards the stream has failed, nothing waits any more, or the last call of the stream was a write that took nothing for now.
+        ensures flushed { IsFlushed S.writes self.new }
     {
-        if matches!(self.state, State::Done | State::Failed(_)) {
+        if self.is_cut() {
             return;
         }
-        if let Err(failure) = self.outbox.write_to(&mut self.stream) {
-            self.lose(failure);
+        match self.outbox.write_to(&mut self.stream) {
+            Ok(()) => {}
+            Err(failure) => self.lose(failure),
         }
     }
 }

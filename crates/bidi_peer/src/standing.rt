@@ -1,7 +1,7 @@
 //! Where a connection stands.
-ghost use Rattle.std.specs.Prelude.{◌≡◌, ◌≢◌, []};
+ghost use Rattle.std.specs.Prelude.{◌≡◌, ◌≢◌, ◌-◌, ◌^◌, [], min};
 ghost use Rattle.bidi_peer.specs.Telling.{HasEnded, IsCut, IsUnclosed};
-ghost use Rattle.bidi_peer.specs.Waiting.{unwritten};
+ghost use Rattle.bidi_peer.specs.Waiting.{payload_of, unwritten};
 ghost use Rattle.bidi_peer.specs.declared.standing.End.TheVariants.{Ahead};
 ghost use Rattle.bidi_peer.specs.declared.standing.State.TheVariants.{Open};
 ghost use Rattle.websocket.specs.declared.protocol.config.Role.TheVariants.{Server};
@@ -67,6 +67,8 @@ pub struct Peer<S> {
     ghost owes: { HasEnded state → end ≢ Ahead },
     // The protocol of an open connection reads and writes.
     ghost active: { state ≡ Open → context.state ≡ Active },
+    // The payload that waits for the end of its message is counted.
+    ghost part: { fragments ≡ min (payload_of context.fragments) (2 ^ 64 - 1) },
     // The protocol is that of a server, which masks no frame.
     ghost server: { context.role ≡ Server },
 }

@@ -29,7 +29,7 @@ pub fn filling_of<'a>(params: &Value<'a>) -> Filling<'a>
     ensures { filling_in result ≡ filling_of (value_view params.now) }
 {
     Filling {
-        context: crate::reading::context_named(params),
+        context: crate::events::context_named(params),
         navigation: string_at(params, "navigation"),
         url: string_at(params, "url"),
     }

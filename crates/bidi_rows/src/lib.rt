@@ -25,6 +25,7 @@
 #![tactic(auto)]
 
 mod command;
+mod events;
 mod fault;
 mod filling;
 mod index;

@@ -1,36 +1,34 @@
-//! Reading rows, answers and events.
-ghost use Rattle.std.specs.Prelude.{◌≡◌, ◌≤◌, ◌||◌, ℕ, List, length, Some, None, Option, IfOk, IfSome, OnOk, is_some, codes, option_map, string_bytes, map};
-ghost use Rattle.json.specs.Json.{Json, document};
+//! Reading rows and answers.
+ghost use Rattle.std.specs.Prelude.{◌≡◌, ◌||◌, ℕ, List, None, Option, IfOk, is_some, codes, option_map, map};
+ghost use Rattle.json.specs.Json.{Json};
 ghost use Rattle.json.specs.Find.{get};
-ghost use Rattle.json.specs.Tree.{HasNumbers, ItemsHaveNumbers};
-ghost use Rattle.json.specs.Value.{value_view, items_view};
+ghost use Rattle.json.specs.Tree.{HasNumbers};
+ghost use Rattle.json.specs.Value.{value_view};
 ghost use Rattle.bidi_rows.specs.Part.{part_of};
 ghost use Rattle.bidi_rows.specs.Filling.{Template as Placed, template_of};
 ghost use Rattle.bidi_rows.specs.Rows as spec;
-ghost use Rattle.bidi_rows.specs.Refusals.{IfRefused};
-ghost use Rattle.bidi_rows.specs.Templates.{IsTemplate, AreTemplates, AreTemplateTexts};
-ghost use Rattle.bidi_rows.specs.View.{event_of, events_of, reply_of, answer_of, row_of};
-ghost use Rattle.bidi_rows.specs.Reading.{context_in, most_bytes, IsEvent, AreEvents, HasEvents, HasReply, HasAnswer, HasPart, HasTimes, IsFor, IsAnsweringRow, IsHoldingRow, IsAnswer, IsEventText};
+ghost use Rattle.bidi_rows.specs.Rows.{Answers};
+ghost use Rattle.bidi_rows.specs.Refusals.{IfFails, IfRefused, IsText, RefusesAnswer, RefusesAnswering, RefusesArray, RefusesEvent, RefusesFor, RefusesNames, RefusesPart, RefusesReply, RefusesText, RefusesTimes};
+ghost use Rattle.bidi_rows.specs.Templates.{AreTemplateTexts};
+ghost use Rattle.bidi_rows.specs.View.{action_of, event_of, reply_of, answer_of, row_of};
+ghost use Rattle.bidi_rows.specs.Reading.{HasReply, HasAnswer, HasPart, HasTimes, IsFor, IsAnsweringRow, IsHoldingRow, IsAnswer, IsEventText, answer_names, hold_names, row_names};
 
+use crate::events::{event_in, events_in, templates_in};
 use crate::fault::RowFault;
-use crate::looking::{has_only, items_in, js_uint_of, object_at, string_at};
+use crate::looking::{has_only, js_uint_of, object_at, string_at};
 use crate::part::{Part, own};
 use crate::row::{Action, Answer, Event, Reply, Row};
 use crate::template::Template;
 use crate::writing::{compact, quoted};
 use bidi_tree::is_parsed_within;
 use json::{Scratch, Value};
-use std::alloc::{AllocError, Global};
-use std::rc::Rc;
+use std::alloc::Global;
 
 /// How many bytes a text can have.
 const MOST_BYTES: usize = 1_048_576;
 
 /// How many levels a part can have.
 const MOST_PART_LEVELS: usize = 60;
-
-/// The names that the properties of an event can have.
-const EVENT_NAMES: &[&str] = &["method", "params"];
 
 /// The names that the properties of an answer can have.
 const ANSWER_NAMES: &[&str] = &["result", "error", "message", "before", "after"];
@@ -47,21 +45,23 @@ const ROW_NAMES: &[&str] = &[
 /// N?}`, or with `"error": CODE` and `"message": TEXT?` in place of `result`.
 ///
 /// # Errors
-/// The first that holds: `NoMemory`, `TooLong`, `NotJson`, `Unexpected`, `NoMethod`, `DeepPart`, `BadTimes`, `BadReply`, and what
-/// [`read_event`] says of an event.
+/// The first that holds: `NoMemory`, `TooLong`, `NotJson`, `Unexpected`, `NoMethod`, `DeepPart`, `BadTimes`, `BadReply`, and for
+/// `before`, then `after`, `BadEvents` and what [`read_event`] says of an event.
 #[tactic(auto, using(crate::proofs::ReadingLemmas::answering_read))]
 pub fn read_row(alloc: Global, text: &str, scratch: &mut Scratch) -> Result<Row, RowFault>
     // After an Ok, the text is JSON for this row, and the row answers.
     ensures ok { IfOk result (λ r. IsAnsweringRow text.now (row_of r)) }
     // An error other than `NoMemory` comes only if the text is JSON for no row that answers.
     ensures refused { IfRefused result ((r : spec.Row) → IsAnsweringRow text.now r → ⊥) }
+    // An error other than `NoMemory` is the first fault of the text that the definition has.
+    ensures why { IfFails result (RefusesText (RefusesNames row_names RefusesAnswering) text.now) }
 {
     let value = parsed(alloc, text, scratch)?;
     if !has_only(&value, ROW_NAMES) {
         return Err(RowFault::Unexpected);
     }
-    let answer = answer_in(alloc, &value)?;
-    row_in(alloc, &value, Action::Answer(answer), text.len())
+    let row = row_in(alloc, &value, text.len())?;
+    answering(alloc, &value, row)
 }
 
 /// Reads a row that holds: `{"method": M, "params": PART?, "times": N?}`.
@@ -74,12 +74,14 @@ pub fn read_hold(alloc: Global, text: &str, scratch: &mut Scratch) -> Result<Row
     ensures ok { IfOk result (λ r. IsHoldingRow text.now (row_of r)) }
     // An error other than `NoMemory` comes only if the text is JSON for no row that holds.
     ensures refused { IfRefused result ((r : spec.Row) → IsHoldingRow text.now r → ⊥) }
+    // An error other than `NoMemory` is the first fault of the text that the definition has.
+    ensures why { IfFails result (RefusesText (RefusesNames hold_names RefusesFor) text.now) }
 {
     let value = parsed(alloc, text, scratch)?;
     if !has_only(&value, HOLD_NAMES) {
         return Err(RowFault::Unexpected);
     }
-    row_in(alloc, &value, Action::Hold, text.len())
+    row_in(alloc, &value, text.len())
 }
 
 /// Reads an answer without a command: `{"result": {..}, "before": [EVENT..]?, "after": [EVENT..]?}`, or with `"error": CODE` and
@@ -93,6 +95,8 @@ pub fn read_answer(alloc: Global, text: &str, scratch: &mut Scratch) -> Result<A
     ensures ok { IfOk result (λ a. IsAnswer text.now (answer_of a)) }
     // An error other than `NoMemory` comes only if the text is JSON for no answer.
     ensures refused { IfRefused result ((a : spec.Answer) → IsAnswer text.now a → ⊥) }
+    // An error other than `NoMemory` is the first fault of the text that the definition has.
+    ensures why { IfFails result (RefusesText (RefusesNames answer_names RefusesAnswer) text.now) }
 {
     let value = parsed(alloc, text, scratch)?;
     if !has_only(&value, ANSWER_NAMES) {
@@ -110,6 +114,8 @@ pub fn read_event(alloc: Global, text: &str, scratch: &mut Scratch) -> Result<Ev
     ensures ok { IfOk result (λ e. IsEventText text.now (event_of e)) }
     // An error other than `NoMemory` comes only if the text is JSON for no event.
     ensures refused { IfRefused result ((e : spec.Event) → IsEventText text.now e → ⊥) }
+    // An error other than `NoMemory` is the first fault of the text that the definition has.
+    ensures why { IfFails result (RefusesText RefusesEvent text.now) }
 {
     let value = parsed(alloc, text, scratch)?;
     event_in(alloc, &value)
@@ -128,55 +134,18 @@ pub fn read_templates(
     ensures ok { IfOk result (λ ts. AreTemplateTexts text.now (map template_of ts.items)) }
     // An error other than `NoMemory` comes only if the text is JSON for no array of such events.
     ensures refused { IfRefused result ((ts : List Placed) → AreTemplateTexts text.now ts → ⊥) }
+    // An error other than `NoMemory` is the first fault of the text that the definition has.
+    ensures why { IfFails result (RefusesText RefusesArray text.now) }
 {
     let value = parsed(alloc, text, scratch)?;
-    let Some(items) = items_in(&value) else {
-        return Err(RowFault::BadEvents);
-    };
-    templates_in(alloc, items)
-}
-
-// The events with places of some items.
-fn templates_in(alloc: Global, items: &Vec<Value<'_>>) -> Result<Vec<Template>, RowFault>
-    requires { ItemsHaveNumbers (items_view items.now.items) }
-    ensures ok { IfOk result (λ ts. AreTemplates (items_view items.now.items) (map template_of ts.items)) }
-    ensures refused { IfRefused result ((ts : List Placed) → AreTemplates (items_view items.now.items) ts → ⊥) }
-{
-    let mut templates = Vec::new(alloc);
-    for item in items {
-        templates.push(template_in(alloc, item)?)?;
-    }
-    Ok(templates)
-}
-
-// The event with places that a value is.
-#[tactic(auto, using(crate::proofs::NumberLemmas::object_numbers))]
-fn template_in(alloc: Global, value: &Value<'_>) -> Result<Template, RowFault>
-    requires { HasNumbers (value_view value.now) }
-    ensures ok { IfOk result (λ t. IsTemplate (value_view value.now) (template_of t)) }
-    ensures refused { IfRefused result ((t : Placed) → IsTemplate (value_view value.now) t → ⊥) }
-{
-    if !has_only(value, EVENT_NAMES) {
-        return Err(RowFault::Unexpected);
-    }
-    let Some(method) = string_at(value, "method") else {
-        return Err(RowFault::NoMethod);
-    };
-    let Some(params) = object_at(value, "params") else {
-        return Err(RowFault::NoParams);
-    };
-    Ok(Template {
-        method: quoted(alloc, method)?,
-        params: own(alloc, params)?,
-    })
+    templates_in(alloc, &value)
 }
 
 // The value of a text that is not too long.
 fn parsed<'a>(alloc: Global, text: &'a str, scratch: &'a mut Scratch) -> Result<Value<'a>, RowFault>
-    ensures json { IfOk result (λ v. document text.now ≡ Some (value_view v)) }
-    ensures few { OnOk result (length text.now ≤ most_bytes) }
+    ensures ok { IfOk result (λ v. IsText text.now (value_view v)) }
     ensures numbers { IfOk result (λ v. HasNumbers (value_view v)) }
-    ensures refused { IfRefused result ((j : Json) → length text.now ≤ most_bytes → document text.now ≡ Some j → ⊥) }
+    ensures why { IfFails result (RefusesText (λ _ _. ⊥) text.now) }
 {
     if text.len() > MOST_BYTES {
         return Err(RowFault::TooLong);
@@ -184,12 +153,12 @@ fn parsed<'a>(alloc: Global, text: &'a str, scratch: &'a mut Scratch) -> Result<
     Ok(Value::parse(alloc, text, scratch)?)
 }
 
-// The row of these properties that does this.
-fn row_in(alloc: Global, value: &Value<'_>, action: Action, bytes: usize) -> Result<Row, RowFault>
+// The row of these properties, which holds.
+fn row_in(alloc: Global, value: &Value<'_>, bytes: usize) -> Result<Row, RowFault>
     ensures is_for { IfOk result (λ r. IsFor (value_view value.now) (row_of r)) }
-    ensures does { IfOk result (λ r. r.action ≡ action) }
+    ensures does { IfOk result (λ r. r.action ≡ Action.Hold) }
     ensures bytes { IfOk result (λ r. r.bytes ≡ bytes) }
-    ensures refused { IfRefused result ((r : spec.Row) → IsFor (value_view value.now) r → ⊥) }
+    ensures why { IfFails result (RefusesFor (value_view value.now)) }
 {
     let Some(method) = string_at(value, "method") else {
         return Err(RowFault::NoMethod);
@@ -200,16 +169,30 @@ fn row_in(alloc: Global, value: &Value<'_>, action: Action, bytes: usize) -> Res
     Ok(Row {
         method,
         part,
-        action,
+        action: Action::Hold,
         left,
         bytes,
+    })
+}
+
+// The row, which answers as these properties say.
+fn answering(alloc: Global, value: &Value<'_>, row: Row) -> Result<Row, RowFault>
+    requires { HasNumbers (value_view value.now) }
+    ensures same { IfOk result (λ r. (r.method ≡ row.method) × (r.part ≡ row.part) × (r.left ≡ row.left) × (r.bytes ≡ row.bytes)) }
+    ensures answers { IfOk result (λ r. (answer : spec.Answer) × (action_of r.action ≡ Answers answer) × HasAnswer (value_view value.now) answer) }
+    ensures why { IfFails result (RefusesAnswer (value_view value.now)) }
+{
+    let answer = answer_in(alloc, value)?;
+    Ok(Row {
+        action: Action::Answer(answer),
+        ..row
     })
 }
 
 // The part that is the property `params`, if there is one.
 fn part_in(alloc: Global, property: Option<&Value<'_>>) -> Result<Option<Part>, RowFault>
     ensures ok { IfOk result (λ part. HasPart (option_map (λ v. value_view v.now) property.entry) (option_map part_of part)) }
-    ensures refused { IfRefused result ((part : Option Json) → HasPart (option_map (λ v. value_view v.now) property.entry) part → ⊥) }
+    ensures why { IfFails result (RefusesPart (option_map (λ v. value_view v.now) property.entry)) }
 {
     let Some(part) = property else {
         return Ok(None);
@@ -223,7 +206,7 @@ fn part_in(alloc: Global, property: Option<&Value<'_>>) -> Result<Option<Part>, 
 // How often the property `times` lets a row be used, if there is one.
 fn times_in(property: Option<&Value<'_>>) -> Result<Option<u64>, RowFault>
     ensures ok { IfOk result (λ left. HasTimes (option_map (λ v. value_view v.now) property.entry) left) }
-    ensures refused { IfRefused result ((left : Option ℕ) → HasTimes (option_map (λ v. value_view v.now) property.entry) left → ⊥) }
+    ensures why { IfFails result (RefusesTimes (option_map (λ v. value_view v.now) property.entry)) }
 {
     let Some(value) = property else {
         return Ok(None);
@@ -241,10 +224,10 @@ fn times_in(property: Option<&Value<'_>>) -> Result<Option<u64>, RowFault>
 fn answer_in(alloc: Global, value: &Value<'_>) -> Result<Answer, RowFault>
     requires { HasNumbers (value_view value.now) }
     ensures ok { IfOk result (λ a. HasAnswer (value_view value.now) (answer_of a)) }
-    ensures refused { IfRefused result ((a : spec.Answer) → HasAnswer (value_view value.now) a → ⊥) }
+    ensures why { IfFails result (RefusesAnswer (value_view value.now)) }
 {
-    let before = events_in(alloc, value.get("before"))?;
     let reply = reply_in(alloc, value)?;
+    let before = events_in(alloc, value.get("before"))?;
     let after = events_in(alloc, value.get("after"))?;
     Ok(Answer {
         before,
@@ -258,7 +241,7 @@ fn answer_in(alloc: Global, value: &Value<'_>) -> Result<Answer, RowFault>
 fn reply_in(alloc: Global, value: &Value<'_>) -> Result<Reply, RowFault>
     requires { HasNumbers (value_view value.now) }
     ensures ok { IfOk result (λ r. HasReply (value_view value.now) (reply_of r)) }
-    ensures refused { IfRefused result ((r : spec.Reply) → HasReply (value_view value.now) r → ⊥) }
+    ensures why { IfFails result (RefusesReply (value_view value.now)) }
 {
     if !has_error(value) {
         let Some(found) = object_at(value, "result") else {
@@ -290,7 +273,7 @@ fn has(value: &Value<'_>, name: &str) -> bool
 fn error_in(alloc: Global, value: &Value<'_>) -> Result<Reply, RowFault>
     requires { get (codes "result") (value_view value.now) ≡ None }
     ensures ok { IfOk result (λ r. HasReply (value_view value.now) (reply_of r)) }
-    ensures refused { IfRefused result ((r : spec.Reply) → HasReply (value_view value.now) r → ⊥) }
+    ensures why { IfFails result (RefusesReply (value_view value.now)) }
 {
     let Some(code) = string_at(value, "error") else {
         return Err(RowFault::BadReply);
@@ -302,86 +285,4 @@ fn error_in(alloc: Global, value: &Value<'_>) -> Result<Reply, RowFault>
         return Err(RowFault::BadReply);
     };
     Ok(Reply::Error(quoted(alloc, code)?, quoted(alloc, message)?))
-}
-
-// The events of a property, if there is one.
-fn events_in(alloc: Global, property: Option<&Value<'_>>) -> Result<Vec<Event>, RowFault>
-    requires { IfSome property (λ v. HasNumbers (value_view v.now)) }
-    ensures ok { IfOk result (λ es. HasEvents (option_map (λ v. value_view v.now) property.entry) (events_of es.items)) }
-    ensures refused { IfRefused result ((es : List spec.Event) → HasEvents (option_map (λ v. value_view v.now) property.entry) es → ⊥) }
-{
-    match property {
-        None => Ok(Vec::new(alloc)),
-        Some(value) => listed_events(alloc, value),
-    }
-}
-
-// The events of an array.
-fn listed_events(alloc: Global, value: &Value<'_>) -> Result<Vec<Event>, RowFault>
-    requires { HasNumbers (value_view value.now) }
-    ensures ok { IfOk result (λ es. HasEvents (Some (value_view value.now)) (events_of es.items)) }
-    ensures refused { IfRefused result ((es : List spec.Event) → HasEvents (Some (value_view value.now)) es → ⊥) }
-{
-    let Some(items) = items_in(value) else {
-        return Err(RowFault::BadEvents);
-    };
-    all_events_in(alloc, items)
-}
-
-// The events of some items.
-fn all_events_in(alloc: Global, items: &Vec<Value<'_>>) -> Result<Vec<Event>, RowFault>
-    requires { ItemsHaveNumbers (items_view items.now.items) }
-    ensures ok { IfOk result (λ es. AreEvents (items_view items.now.items) (events_of es.items)) }
-    ensures refused { IfRefused result ((es : List spec.Event) → AreEvents (items_view items.now.items) es → ⊥) }
-{
-    let mut events = Vec::new(alloc);
-    for item in items {
-        events.push(event_in(alloc, item)?)?;
-    }
-    Ok(events)
-}
-
-// The event that a value is.
-#[tactic(auto, using(crate::proofs::NumberLemmas::object_numbers))]
-fn event_in(alloc: Global, value: &Value<'_>) -> Result<Event, RowFault>
-    requires { HasNumbers (value_view value.now) }
-    ensures ok { IfOk result (λ e. IsEvent (value_view value.now) (event_of e)) }
-    ensures refused { IfRefused result ((e : spec.Event) → IsEvent (value_view value.now) e → ⊥) }
-{
-    if !has_only(value, EVENT_NAMES) {
-        return Err(RowFault::Unexpected);
-    }
-    let Some(method) = string_at(value, "method") else {
-        return Err(RowFault::NoMethod);
-    };
-    let Some(params) = object_at(value, "params") else {
-        return Err(RowFault::NoParams);
-    };
-    let name = quoted(alloc, method)?;
-    let written = compact(alloc, params)?;
-    let text = format!(in alloc; "{{\"method\":{name},\"params\":{written},\"type\":\"event\"}}")?;
-    Ok(Event {
-        method: String::from_str(alloc, method)?,
-        context: context_in(alloc, params)?,
-        text: Rc::new(alloc, text)?,
-    })
-}
-
-// The context that the params of an event name.
-fn context_in(alloc: Global, params: &Value<'_>) -> Result<Option<String>, AllocError>
-    ensures { IfOk result (λ c. option_map string_bytes c ≡ context_in (value_view params.now)) }
-{
-    match context_named(params) {
-        Some(context) => Ok(Some(String::from_str(alloc, context)?)),
-        None => Ok(None),
-    }
-}
-
-pub(crate) fn context_named<'a>(params: &Value<'a>) -> Option<&'a str>
-    ensures { option_map (λ s. s.now) result ≡ context_in (value_view params.now) }
-{
-    match string_at(params, "context") {
-        Some(context) => Some(context),
-        None => string_at(params.get("source")?, "context"),
-    }
 }

@@ -1,7 +1,8 @@
-use Rattle.std.proofs.Common.{subst, sym, codes}
+use Rattle.std.proofs.Common.{codes, inl, inr, subst}
 use Rattle.json.specs.Value.{value_view}
 use Rattle.bidi_rows.specs.Reading.{HasEvents}
-use Rattle.bidi_rows.specs.View.{events_of}
+use Rattle.bidi_rows.specs.Refusals.{RefusesEvents}
+use Rattle.bidi_rows.specs.View.{events_of, reply_of}
 use Rattle.bidi_rows.proofs.NumberLemmas.{property_numbers}
 use Rattle.bidi_rows.proofs.RefusalLemmas.{handed_on}
 use Rattle.bidi_rows.proofs.reading.answer_in.Goals as goal
@@ -19,16 +20,22 @@ returns-clause-ok c = record {
   after = subst (λ o. HasEvents o (events_of c.in_ok-after.after.items)) c.get-2.ensures c.in_ok-after.ensures.ok;
 }
 
-pub returns-in_err-before-clause-refused : goal.returns-in_err-before-clause-refused
-returns-in_err-before-clause-refused c =
-    handed_on _ _ c.from_residual.ensures.1 c.in_err-before.ensures.refused (λ no a has.
-    no a.before (subst (λ o. HasEvents o a.before) (sym c.get.ensures) has.before))
+pub returns-in_err-reply-clause-why : goal.returns-in_err-reply-clause-why
+returns-in_err-reply-clause-why c = handed_on _ _ c.from_residual.ensures.1 c.in_err-reply.ensures.why (λ f x. inl x)
 
-pub returns-in_err-reply-clause-refused : goal.returns-in_err-reply-clause-refused
-returns-in_err-reply-clause-refused c =
-    handed_on _ _ c.from_residual-in_err-reply.ensures.1 c.in_err-reply.ensures.refused (λ no a has. no a.reply has.reply)
+pub returns-in_err-before-clause-why : goal.returns-in_err-before-clause-why
+returns-in_err-before-clause-why c =
+    handed_on _ _ c.from_residual-in_err-before.ensures.1 c.in_err-before.ensures.why (λ f x.
+    inr ((reply_of c.in_ok-reply.reply, c.in_ok-reply.ensures.ok), inl (subst (λ o. RefusesEvents o f) c.get.ensures x)))
 
-pub returns-in_err-after-clause-refused : goal.returns-in_err-after-clause-refused
-returns-in_err-after-clause-refused c =
-    handed_on _ _ c.from_residual-in_err-after.ensures.1 c.in_err-after.ensures.refused (λ no a has.
-    no a.after (subst (λ o. HasEvents o a.after) (sym c.get-2.ensures) has.after))
+pub returns-in_err-after-clause-why : goal.returns-in_err-after-clause-why
+returns-in_err-after-clause-why c =
+    let es = events_of c.in_ok-before.before.items in
+    handed_on _ _ c.from_residual-in_err-after.ensures.1 c.in_err-after.ensures.why (λ f x.
+    inr (
+      (reply_of c.in_ok-reply.reply, c.in_ok-reply.ensures.ok),
+      inr (
+        (es, subst (λ o. HasEvents o es) c.get.ensures c.in_ok-before.ensures.ok),
+        subst (λ o. RefusesEvents o f) c.get-2.ensures x,
+      ),
+    ))

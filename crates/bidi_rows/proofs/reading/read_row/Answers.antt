@@ -1,10 +1,33 @@
+use Rattle.std.proofs.Common.{◌∙◌, inl, inr, refl, sym}
 use Rattle.json.specs.Value.{value_view}
-use Rattle.bidi_rows.proofs.RefusalLemmas.{handed_on, kept_on, no-row-answer, no-answering-row}
+use Rattle.bidi_rows.specs.Reading.{answer_names, hold_names, row_names}
+use Rattle.bidi_rows.specs.Refusals.{RefusesAnswering, RefusesNames}
+use Rattle.bidi_rows.proofs.RefusalLemmas.{handed_on, kept_on, no-value, none-then, no-row-text, row-text}
+use Rattle.bidi_rows.specs.declared.fault.RowFault.TheVariants.{Unexpected}
+use Rattle.bidi_rows.specs.View.{row_of}
 use Rattle.bidi_rows.proofs.reading.read_row.Goals as goal
 
-pub returns-clause-refused : goal.returns-clause-refused
-returns-clause-refused c = kept_on _ c.row_in.ensures.refused (no-answering-row c.args.text.now (value_view c.in_ok-value.value) c.in_ok-value.ensures.json)
+pub returns-in_err-value-clause-why : goal.returns-in_err-value-clause-why
+returns-in_err-value-clause-why c = handed_on _ _ c.from_residual.ensures.1 c.in_err-value.ensures.why (no-value (RefusesNames row_names RefusesAnswering) c.args.text.now)
 
-pub returns-in_err-answer-clause-refused : goal.returns-in_err-answer-clause-refused
-returns-in_err-answer-clause-refused c =
-    handed_on _ _ c.from_residual-in_err-answer.ensures.1 c.in_err-answer.ensures.refused (no-row-answer c.args.text.now (value_view c.in_ok-value.value) c.in_ok-value.ensures.json)
+pub returns-in_err-value-clause-refused : goal.returns-in_err-value-clause-refused
+returns-in_err-value-clause-refused c = none-then _ (returns-in_err-value-clause-why c) (no-row-text c.args.text.now)
+
+pub returns-then-not-has_only-clause-why : goal.returns-then-not-has_only-clause-why
+returns-then-not-has_only-clause-why c = row-text c.args.text.now (value_view c.in_ok-value.value) c.in_ok-value.ensures.ok Unexpected (inl (refl, sym c.has_only.ensures ∙ c.if-not-has_only.true))
+
+pub returns-then-not-has_only-clause-refused : goal.returns-then-not-has_only-clause-refused
+returns-then-not-has_only-clause-refused c = no-row-text c.args.text.now Unexpected (returns-then-not-has_only-clause-why c)
+
+pub returns-in_err-row-clause-why : goal.returns-in_err-row-clause-why
+returns-in_err-row-clause-why c =
+    handed_on _ _ c.from_residual-in_err-row.ensures.1 c.in_err-row.ensures.why (λ f x. row-text c.args.text.now (value_view c.in_ok-value.value) c.in_ok-value.ensures.ok f (inr (sym c.has_only.ensures ∙ c.if-not-has_only.false, inl x)))
+
+pub returns-in_err-row-clause-refused : goal.returns-in_err-row-clause-refused
+returns-in_err-row-clause-refused c = none-then _ (returns-in_err-row-clause-why c) (no-row-text c.args.text.now)
+
+pub returns-clause-why : goal.returns-clause-why
+returns-clause-why c = kept_on _ c.answering.ensures.why (λ f x. row-text c.args.text.now (value_view c.in_ok-value.value) c.in_ok-value.ensures.ok f (inr (sym c.has_only.ensures ∙ c.if-not-has_only.false, inr ((row_of c.in_ok-row.row, c.in_ok-row.ensures.is_for), x))))
+
+pub returns-clause-refused : goal.returns-clause-refused
+returns-clause-refused c = none-then _ (returns-clause-why c) (no-row-text c.args.text.now)

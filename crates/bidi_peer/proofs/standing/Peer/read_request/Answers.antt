@@ -57,9 +57,6 @@ returns-in-Some-2-clause-heard g c =
     (λ same. c.in_ok-came-2.ensures.speaks (came.end ∙ ahead) (c.in-Some-2.is ∙ ap (λ x. Some x) same))
     (subst (λ o. IfSome o (IsHeard remaining g.S.Write.contents read c.hear.new.self)) c.in-Some-2.is (c.in_ok-came-2.ensures.heard (came.end ∙ ahead)))
 
-pub returns-clause-heard : goal.returns-clause-heard
-returns-clause-heard g c = λ ahead. (c.loop.invariant.receives, c.loop.invariant.waits)
-
 pub hear-requires-clause-asks : goal.hear-requires-clause-asks
 hear-requires-clause-asks g c = subst (λ b. IsAskedBy b c.in_ok-asked.asked) c.waiting-then-is_to_judge.ensures c.in_ok-asked.ensures
 

@@ -1,4 +1,4 @@
-use Rattle.std.proofs.Common.{◌≡◌, ◌∙◌, ◌<◌, ◌≤◌, ◌++◌, ◌+◌, length, drop, get_or, [], ◌∷◌, append_assoc, append-nil, sym, ap, subst}
+use Rattle.std.proofs.Common.{◌≡◌, ◌∙◌, ◌<◌, ◌≤◌, ◌++◌, ◌+◌, length, drop, get_or, [], ◌∷◌, append_assoc, append-nil, inl, inr, sym, ap, subst}
 use Rattle.std.proofs.lemmas.List.{map-append, drop_all}
 use Rattle.json.specs.Tree.{ItemsHaveNumbers}
 use Rattle.json.specs.Value.{value_view, items_view}
@@ -6,8 +6,9 @@ use Rattle.bidi_rows.specs.Rows.{Event}
 use Rattle.bidi_rows.specs.Reading.{AreEvents}
 use Rattle.bidi_rows.specs.View.{event_of, events_of}
 use Rattle.bidi_rows.proofs.ReadingLemmas.{from-item}
-use Rattle.bidi_rows.proofs.RefusalLemmas.{handed_on, first-event, other-events}
-use Rattle.bidi_rows.proofs.reading.all_events_in.Goals as goal
+use Rattle.bidi_rows.specs.Refusals.{RefusesItems}
+use Rattle.bidi_rows.proofs.RefusalLemmas.{handed_on, event-passes}
+use Rattle.bidi_rows.proofs.events.all_events_in.Goals as goal
 
 pub event_in-requires : goal.event_in-requires
 event_in-requires c =
@@ -31,9 +32,8 @@ loop-item-preserved c =
       events = λ rest has.
           subst (AreEvents (items_view items)) (sym (ap (λ es. es ++ rest) more ∙ append_assoc done (e ∷ []) rest))
           (c.loop-item.invariant.events (e ∷ rest) (subst (λ vs. AreEvents (items_view vs) (e ∷ rest)) (sym is) (c.in_ok-event_in.ensures.ok, has)));
-      some = λ all has.
-          let left = c.loop-item.invariant.some all has in
-          other-events (value_view c.item-item.result) (items_view (drop (i + 1) items)) left.0 (subst (λ vs. AreEvents (items_view vs) left.0) is left.1);
+      why = λ f x.
+          c.loop-item.invariant.why f (subst (λ vs. RefusesItems (items_view vs) f) (sym is) (inr (event-passes _ _ c.in_ok-event_in.ensures.ok, x)));
     }
 
 pub returns-clause-ok : goal.returns-clause-ok
@@ -43,13 +43,11 @@ returns-clause-ok c =
     (c.loop-item.invariant.events [] (subst (λ vs. AreEvents (items_view vs) []) (sym (drop_all c.loop-item.item-index items
     (subst (λ xs. length xs ≤ c.loop-item.item-index) c.deref-item-items.ensures.value c.loop-item-test.false))) tt))
 
-pub returns-in_err-event_in-clause-refused : goal.returns-in_err-event_in-clause-refused
-returns-in_err-event_in-clause-refused c =
+pub returns-in_err-event_in-clause-why : goal.returns-in_err-event_in-clause-why
+returns-in_err-event_in-clause-why c =
     let items = c.args.items.now.items in
     let i = c.loop-item.item-index in
     let is = from-item items i c.item-item.result (subst (λ xs. i < length xs) c.deref-item-items.ensures.value c.loop-item-test.true)
     (c.item-item.is ∙ ap (λ xs. get_or xs i c.item-item.result) c.deref-item-items.ensures.value) in
-    handed_on _ _ c.from_residual.ensures.1 c.in_err-event_in.ensures.refused (λ no all has.
-    let left = c.loop-item.invariant.some all has in
-    let first = first-event (value_view c.item-item.result) (items_view (drop (i + 1) items)) left.0 (subst (λ vs. AreEvents (items_view vs) left.0) is left.1) in
-    no first.0 first.1)
+    handed_on _ _ c.from_residual.ensures.1 c.in_err-event_in.ensures.why (λ f x.
+    c.loop-item.invariant.why f (subst (λ vs. RefusesItems (items_view vs) f) (sym is) (inl x)))

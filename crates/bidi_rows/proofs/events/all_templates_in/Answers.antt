@@ -1,12 +1,13 @@
-use Rattle.std.proofs.Common.{◌≡◌, ◌∙◌, ◌<◌, ◌≤◌, ◌++◌, ◌+◌, length, drop, get_or, [], ◌∷◌, append_assoc, append-nil, map, sym, ap, subst}
+use Rattle.std.proofs.Common.{◌≡◌, ◌∙◌, ◌<◌, ◌≤◌, ◌++◌, ◌+◌, length, drop, get_or, [], ◌∷◌, append_assoc, append-nil, map, inl, inr, sym, ap, subst}
 use Rattle.std.proofs.lemmas.List.{map-append, drop_all}
 use Rattle.json.specs.Tree.{ItemsHaveNumbers}
 use Rattle.json.specs.Value.{value_view, items_view}
 use Rattle.bidi_rows.specs.Filling.{Template, template_of}
 use Rattle.bidi_rows.specs.Templates.{AreTemplates}
 use Rattle.bidi_rows.proofs.ReadingLemmas.{from-item}
-use Rattle.bidi_rows.proofs.RefusalLemmas.{handed_on, first-template, other-templates}
-use Rattle.bidi_rows.proofs.reading.templates_in.Goals as goal
+use Rattle.bidi_rows.specs.Refusals.{RefusesItems}
+use Rattle.bidi_rows.proofs.RefusalLemmas.{handed_on, template-passes}
+use Rattle.bidi_rows.proofs.events.all_templates_in.Goals as goal
 
 pub template_in-requires : goal.template_in-requires
 template_in-requires c =
@@ -30,9 +31,8 @@ loop-item-preserved c =
       templates = λ rest has.
           subst (AreTemplates (items_view items)) (sym (ap (λ es. es ++ rest) more ∙ append_assoc done (e ∷ []) rest))
           (c.loop-item.invariant.templates (e ∷ rest) (subst (λ vs. AreTemplates (items_view vs) (e ∷ rest)) (sym is) (c.in_ok-template_in.ensures.ok, has)));
-      some = λ all has.
-          let left = c.loop-item.invariant.some all has in
-          other-templates (value_view c.item-item.result) (items_view (drop (i + 1) items)) left.0 (subst (λ vs. AreTemplates (items_view vs) left.0) is left.1);
+      why = λ f x.
+          c.loop-item.invariant.why f (subst (λ vs. RefusesItems (items_view vs) f) (sym is) (inr (template-passes _ _ c.in_ok-template_in.ensures.ok, x)));
     }
 
 pub returns-clause-ok : goal.returns-clause-ok
@@ -42,13 +42,11 @@ returns-clause-ok c =
     (c.loop-item.invariant.templates [] (subst (λ vs. AreTemplates (items_view vs) []) (sym (drop_all c.loop-item.item-index items
     (subst (λ xs. length xs ≤ c.loop-item.item-index) c.deref-item-items.ensures.value c.loop-item-test.false))) tt))
 
-pub returns-in_err-template_in-clause-refused : goal.returns-in_err-template_in-clause-refused
-returns-in_err-template_in-clause-refused c =
+pub returns-in_err-template_in-clause-why : goal.returns-in_err-template_in-clause-why
+returns-in_err-template_in-clause-why c =
     let items = c.args.items.now.items in
     let i = c.loop-item.item-index in
     let is = from-item items i c.item-item.result (subst (λ xs. i < length xs) c.deref-item-items.ensures.value c.loop-item-test.true)
     (c.item-item.is ∙ ap (λ xs. get_or xs i c.item-item.result) c.deref-item-items.ensures.value) in
-    handed_on _ _ c.from_residual.ensures.1 c.in_err-template_in.ensures.refused (λ no all has.
-    let left = c.loop-item.invariant.some all has in
-    let first = first-template (value_view c.item-item.result) (items_view (drop (i + 1) items)) left.0 (subst (λ vs. AreTemplates (items_view vs) left.0) is left.1) in
-    no first.0 first.1)
+    handed_on _ _ c.from_residual.ensures.1 c.in_err-template_in.ensures.why (λ f x.
+    c.loop-item.invariant.why f (subst (λ vs. RefusesItems (items_view vs) f) (sym is) (inl x)))
