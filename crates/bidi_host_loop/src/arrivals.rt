@@ -81,6 +81,7 @@ impl Hosted {
     }
 
     // Admits or denies a client that asks for a resource.
+    #[tactic(auto, using(crate::proofs::RunLemmas::asked_run))]
     pub(crate) fn admit<W: Surroundings>(
         &mut self,
         world: &mut W,

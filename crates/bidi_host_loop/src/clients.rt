@@ -147,6 +147,7 @@ impl Hosted {
     }
 
     // A client says a text.
+    #[tactic(auto, using(crate::proofs::RunLemmas::heard_run))]
     fn client_says<W: Surroundings>(
         &mut self,
         world: &mut W,
@@ -160,6 +161,7 @@ impl Hosted {
     }
 
     // A client sends a binary message.
+    #[tactic(auto, using(crate::proofs::RunLemmas::heard_bytes_run))]
     fn client_sends_bytes<W: Surroundings>(
         &mut self,
         world: &mut W,
@@ -172,6 +174,7 @@ impl Hosted {
     }
 
     // The connection of a client has ended.
+    #[tactic(auto, using(crate::proofs::RunLemmas::lost_run))]
     fn client_ends<W: Surroundings>(
         &mut self,
         world: &mut W,
