@@ -163,7 +163,6 @@ impl<S: Stream> Peer<S> {
         ensures receives { IfOk result (λ came. came ≡ None → Receives S.remaining self.old self.new) }
         ensures wordless { IfOk result (λ came. IfSome came IsWordless) }
         ensures dry { IfOk result (λ came. IfSome came (IsDry S.reads self.new)) }
-        ensures grows { IfOk result (λ came. came ≡ None → length (untaken self.old.inbox) < length (untaken self.new.inbox)) }
         ensures waited { self.old.end ≢ Known → IfOk result (λ came. IfSome came (IsWaited S.remaining self.old self.new)) }
     {
         match self.inbox.fill(&mut self.stream)? {
