@@ -1,6 +1,6 @@
 -- When the text of a row, an answer or an event is refused. This project's own.
 use Rattle.std.specs.Prelude.{◌≡◌, ◌<◌, ◌≤◌, ◌⊎◌, ℕ, true, false, List, length, codes, Result, Ok, Err, Option, None, Some, IsSome}
-use Rattle.json.specs.Json.{Json, null, boolean, number, string, array, object, Items, no_items, item, document}
+use Rattle.json.specs.Json.{Json, array, Items, no_items, item, document}
 use Rattle.json.specs.Find.{get}
 use Rattle.json.specs.declared.error.Error.{Error}
 use Rattle.json.specs.declared.error.Error.TheVariants as json
