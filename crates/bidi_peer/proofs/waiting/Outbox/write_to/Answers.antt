@@ -1,6 +1,6 @@
 use Rattle.std.proofs.Common.{subst, sym}
 use Rattle.bidi_peer.specs.Waiting.{Writes, unwritten}
-use Rattle.bidi_peer.proofs.WaitingLemmas.{writes_keeps, writes_more}
+use Rattle.bidi_peer.proofs.WaitingLemmas.{writes_more}
 use Rattle.bidi_peer.proofs.waiting.Outbox.write_to.Goals as goal
 
 pub loop-stream-preserved : goal.loop-stream-preserved
