@@ -6,8 +6,8 @@ use Rattle.bidi_scripted.proofs.OnlyLemmas.{only-named, only-same}
 use Rattle.bidi_scripted.proofs.scripted_end.ScriptedEnd.cancel_by.Goals.{then-is_success, else-is_success}
 use Rattle.bidi_scripted.proofs.scripted_end.ScriptedEnd.cancel_by.Goals as goal
 
-pub returns-in-Ok-clause-rest : goal.returns-in-Ok-clause-rest
-returns-in-Ok-clause-rest c =
+pub returns-after-is_success-clause-rest : goal.returns-after-is_success-clause-rest
+returns-after-is_success-clause-rest c =
     let script = script_of c.args.self.now.script in
     let P : ScriptedEnd → Type 0 = λ x. OnlySubscriptionsChange script (script_of x.script) in
     let stays = ap script_of c.in-Ok.ensures.script in
