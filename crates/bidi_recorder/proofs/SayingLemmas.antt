@@ -2,7 +2,7 @@
 use Rattle.std.proofs.Common.{◌≡◌, false, ℕ, ◌<◌, nat_le, cond, IfOk, Result, Ok, Err, List, length, codes, None, option_map, option_and_then, refl, ap, sym, ◌∙◌, arith}
 use Rattle.std.specs.Prelude.{if◌then◌else◌, is_some}
 use Rattle.std.proofs.lemmas.List.{length-map}
-use Rattle.json.specs.Json.{if_last, value}
+use Rattle.json.specs.Json.{if_last, value, max_depth as json_depth}
 use Rattle.serde_json.specs.Read.{of_json, max_depth}
 use Rattle.serde_json.proofs.OnLiterals.{serde_json_on_literals}
 use Rattle.bidi_tree.specs.Text.{of_data, tree_of}
@@ -37,7 +37,7 @@ verdict_with_returns text v = same_verdict (with_returns text) (tree_with_return
 pub command_with_returns : (text : List ℕ) → command_for_rows (with_returns text) ≡ command_for_rows text
 command_with_returns text =
     λ i. if is_some (tree_with_returns text i)
-    then option_and_then command_in (option_and_then (λ p. if_last p.0 p.1) (value max_depth (tokens_same text i))) else None
+    then option_and_then command_in (option_and_then (λ p. if_last p.0 p.1) (value json_depth (tokens_same text i))) else None
 
 no_command : (text : List ℕ) → 1048576 < length text → command_tree text ≡ None
 no_command text long =

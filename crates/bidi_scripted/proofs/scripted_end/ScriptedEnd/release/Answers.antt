@@ -25,7 +25,7 @@ returns-then-held-clause-lost c = λ held is lost.
     c.release_lost.ensures.lost c.release_lost.ensures.released
 
 pub returns-then-held-clause-released : goal.returns-then-held-clause-released
-returns-then-held-clause-released c = on-ok c.release_lost.result (only-same _ _) c.release_lost.ensures.released
+returns-then-held-clause-released c = on-ok c.release_lost.result (only-same (without_held c.args.number (script_of c.args.self.now.script)) _) c.release_lost.ensures.released
 
 pub returns-then-held-clause-refused : goal.returns-then-held-clause-refused
 returns-then-held-clause-refused c = c.release_lost.ensures.refused _

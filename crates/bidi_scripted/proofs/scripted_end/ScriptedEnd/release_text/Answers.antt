@@ -32,4 +32,5 @@ returns-in-Ok-clause-named c = λ h s some.
     )
 
 pub returns-in-Ok-clause-released : goal.returns-in-Ok-clause-released
-returns-in-Ok-clause-released c = only-without c.args.number _ _ _ c.in-Ok.ensures.rest c.release.ensures
+returns-in-Ok-clause-released c =
+    only-without c.args.number (script_of c.args.self.now.script) (script_of c.hear_names.new.self.script) _ c.in-Ok.ensures.rest c.release.ensures
