@@ -68,11 +68,16 @@ by_none old new goes manners same = record { manners = manners; more = []; goes 
 pub by_rests : {S : Step} (old new : Hosted) → S old.host.end old.host.end [] → Rests old new → By S old new
 by_rests {S} old new goes r = by_none old new (subst (λ e. S old.host.end e []) (sym r.1) goes) r.0 r.2
 
+-- the same, by the lines that are played last
+behind : (a b : ScriptedEnd) (m' : List Deed) → Plays a b m' → (e : ScriptedEnd) (m : List Deed) → Plays e a m → Plays e b (m ++ m')
+behind _ _ _ (run.no_lines a) e m p = subst (Plays e a) (sym (append-nil m)) p
+behind _ _ _ (run.one_more text a mid b done more q takes) e m p =
+    subst (Plays e b) (append_assoc m done more) (one_more text e mid b (m ++ done) more (behind a mid done q e m p) takes)
+
 -- more lines are played behind others
 pub plays_two : (e e' e'' : ScriptedEnd) (m m' : List Deed) → Plays e e' m → Plays e' e'' m' → Plays e e'' (m ++ m')
-plays_two e e' e'' m m' p (run.no_lines e'') = subst (Plays e e'') (sym (append-nil m)) p
-plays_two e e' e'' m m' p (run.one_more text e' mid e'' done more q takes) =
-    subst (Plays e e'') (append_assoc m done more) (one_more text e mid e'' (m ++ done) more (plays_two e e' mid m done p q) takes)
+plays_two e e' e'' m m' p q =
+    behind e' e'' m' q e m p
 
 -- a line that a page may say is played
 pub plays_one : (l : Line) → is_said_by_pages l ≡ true → (e e' : ScriptedEnd) (m : List Deed) → Takes l e e' m → Plays e e' m

@@ -152,7 +152,7 @@ plays_so first most full = record {
   is_next = λ at_end line bytes next. next;
   refuses = λ at_end bytes bad. bad;
   answers = λ lines text done. scripted_plays done.0.end lines text done.1;
-  is_worn_out = λ lines rest (few, line, first, says, spent). (goes_on line rest first, inl spent);
+  is_worn_out = λ lines rest (few, (line, first, (says, spent))). (goes_on line rest first, inl spent);
   few = λ lines text done few. omega (arith, few, full);
   all = λ lines text done all. all ∙ full;
 }
