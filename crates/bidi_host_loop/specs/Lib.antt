@@ -1,4 +1,0 @@
-pub mod Deeds
-pub mod Runs
-pub mod Goes
-pub mod Clients
