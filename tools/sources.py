@@ -144,8 +144,8 @@ def with_clauses(call, lines, at):
                 return at
             continue
         at += 1
-        # The head ends where the body begins, or at the semicolon of a trait's function without one.
-        if not line.strip().startswith("//") and line.endswith(("{", ";")):
+        # The head ends where the body begins, which may be empty, or at the semicolon of a trait's function without one.
+        if not line.strip().startswith("//") and line.endswith(("{", "{}", ";")):
             return at
 
 
@@ -292,16 +292,8 @@ def definitions(crate):
                 if block is not None and not it.says and not any("pub " in before for before in lines[block:at]):
                     it.says, example = sentence(lines, block, "--")
                     it.example = it.example or example
-                # Two of one type, one right behind the other, have one sentence.
-                if not it.says and found and found[-1].path == path and at > 2 and not lines[at - 1] and is_alike(lines, at):
-                    it.says = found[-1].says
                 found.append(it)
     return found
-
-
-def is_alike(lines, at):
-    """Whether the definition at a line is of the type of the one that ends two lines above, which has one line of its own."""
-    return lines[at].partition(" : ")[2] == lines[at - 3].partition(" : ")[2] != ""
 
 
 def definition(crate, path, module, head, lines, at):

@@ -109,7 +109,7 @@ impl<S: Stream> Peer<S> {
     pub fn take(&mut self) -> Result<Came, AllocError>
         // If the caller already knew of the end, it still does.
         ensures stays_known { StaysKnown self.old.end self.new.end }
-        // The end is reported exactly once.
+        // After an Ok, the end is reported only if the caller did not know it, and the caller knows it then; any other report leaves that as it was.
         ensures tells_once { IfOk result (TellsOnce self.old.end self.new.end) }
         // If nothing more is read, the caller knows it.
         ensures told { OnOk result (HasEnded self.new.state → self.new.end ≡ Known) }

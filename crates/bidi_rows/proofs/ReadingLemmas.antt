@@ -1,14 +1,14 @@
 -- What was read of a row, put together.
-use Rattle.std.proofs.Common.{◌≡◌, ◌∙◌, ◌<◌, ◌≤◌, ◌+◌, ℕ, suc, true, get_or, drop, add-one, drop-cons, codes, List, ◌∷◌, length, Some, Result, Ok, Err, string_bytes, sym, ap, subst}
+use Rattle.std.proofs.Common.{◌≡◌, ◌∙◌, ◌<◌, ◌+◌, ℕ, suc, true, get_or, drop, add-one, drop-cons, codes, List, ◌∷◌, length, Some, Result, Ok, Err, string_bytes, sym, ap, subst}
 use Rattle.std.specs.Prelude.{IfOk, option_map}
 use Rattle.json.specs.Find.{get}
-use Rattle.json.specs.Json.{Json, Items, array, document}
+use Rattle.json.specs.Json.{Json, Items, array}
 use Rattle.bidi_rows.specs.declared.row.Row as declared_row
 use Rattle.bidi_rows.specs.declared.row.Action.TheVariants as action_in_code
 use Rattle.bidi_rows.specs.declared.row.Answer as declared_answer
 use Rattle.bidi_rows.specs.Filling.{Template}
 use Rattle.bidi_rows.specs.Part.{part_of}
-use Rattle.bidi_rows.specs.Rows.{Answer, Answers, Holds}
+use Rattle.bidi_rows.specs.Rows.{Answer, Answers}
 use Rattle.bidi_rows.specs.Reading.{HasPart, HasTimes, IsFor, Does, IsRow, IsAnsweringRow, IsHoldingRow, IsAnswer, HasAnswer, has_only, answer_names, hold_names, row_names}
 use Rattle.bidi_rows.specs.Refusals.{IsText}
 use Rattle.bidi_rows.specs.Templates.{AreTemplates, AreTemplateTexts}

@@ -1,16 +1,16 @@
 -- Why a text, a value or a property is refused, and that it is then JSON for nothing of its kind.
-use Rattle.std.proofs.Common.{◌≡◌, true, false, ◌||◌, ◌⊎◌, inl, inr, is_some, ℕ, List, [], ◌∷◌, Option, Some, None, Result, Ok, Err, arith, codes, refl, sym, subst}
+use Rattle.std.proofs.Common.{◌≡◌, true, false, ◌||◌, inl, inr, is_some, ℕ, List, [], ◌∷◌, Option, Some, None, Result, Ok, Err, arith, codes, refl, sym, subst}
 use Rattle.std.specs.Prelude.{IsSome}
 use Rattle.std.specs.Result.{IsErrAnd}
-use Rattle.json.specs.Json.{Json, null, boolean, number, string, array, object, Items, no_items, item, document}
+use Rattle.json.specs.Json.{Json, null, boolean, number, string, array, object, Items, no_items, item}
 use Rattle.json.specs.Find.{as_array}
 use Rattle.bidi_rows.specs.declared.fault.RowFault.{RowFault}
-use Rattle.bidi_rows.specs.declared.fault.RowFault.TheVariants.{NoMemory, TooLong, NotJson, Unexpected, NoMethod, NoParams, DeepPart, BadTimes, BadReply, BadEvents}
+use Rattle.bidi_rows.specs.declared.fault.RowFault.TheVariants.{NoMemory, TooLong, NotJson, NoMethod, NoParams, BadEvents}
 use Rattle.bidi_rows.specs.Rows.{Event, Answer, Action, Answers, Holds, Row}
 use Rattle.bidi_rows.specs.Filling.{Template}
 use Rattle.bidi_rows.specs.Templates.{IsTemplate, AreTemplates, AreTemplateTexts}
-use Rattle.bidi_rows.specs.Reading.{answer_names, event_names, hold_names, row_names, has_only, string_at, object_at, AreEvents, IsEvent, IsEventText, HasAnswer, HasEvents, IsFor, Does, IsRow, IsAnsweringRow, IsHoldingRow, IsAnswer}
-use Rattle.bidi_rows.specs.Refusals.{WhenRefused, IfRefused, HasReason, IfFails, IsText, RefusesAnswer, RefusesAnswering, RefusesArray, RefusesCall, RefusesEvent, RefusesEvents, RefusesFor, RefusesItems, RefusesNames, RefusesText, PassesEvent}
+use Rattle.bidi_rows.specs.Reading.{answer_names, event_names, hold_names, row_names, has_only, string_at, object_at, AreEvents, IsEvent, IsEventText, HasAnswer, HasEvents, IsFor, Does, IsAnsweringRow, IsHoldingRow, IsAnswer}
+use Rattle.bidi_rows.specs.Refusals.{IfRefused, HasReason, IfFails, IsText, RefusesAnswer, RefusesAnswering, RefusesArray, RefusesCall, RefusesEvent, RefusesEvents, RefusesFor, RefusesItems, RefusesNames, RefusesText, PassesEvent}
 
 -- a reason that holds for another
 pub for-reason : {P Q : RowFault → Type 0} (e : RowFault) → HasReason P e → ((f : RowFault) → P f → Q f) → HasReason Q e

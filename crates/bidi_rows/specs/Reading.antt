@@ -114,10 +114,11 @@ abbrev pub HasTimes : Option Json → Option ℕ → Type 0
 HasTimes None left = left ≡ None
 HasTimes (Some j) left = (left ≡ option_and_then js_uint (as_number j)) × IfSome left (λ n. 0 < n) × IsSome left
 
--- the names that the properties of a row that holds, or of one that answers, can have
+-- the names that the properties of a row that holds can have
 abbrev pub hold_names : List (List ℕ)
 hold_names = codes "method" ∷ codes "params" ∷ codes "times" ∷ []
 
+-- the names that the properties of a row that answers can have
 abbrev pub row_names : List (List ℕ)
 row_names = hold_names ++ answer_names
 

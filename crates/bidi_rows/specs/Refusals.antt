@@ -1,11 +1,11 @@
 -- When the text of a row, an answer or an event is refused. This project's own.
 use Rattle.std.specs.Prelude.{◌≡◌, ◌<◌, ◌≤◌, ◌⊎◌, ℕ, true, false, List, length, codes, Result, Ok, Err, Option, None, Some, IsSome}
-use Rattle.json.specs.Json.{Json, null, boolean, number, string, array, object, Items, no_items, item, document}
+use Rattle.json.specs.Json.{Json, array, Items, no_items, item, document}
 use Rattle.json.specs.Find.{get}
 use Rattle.json.specs.declared.error.Error.{Error}
 use Rattle.json.specs.declared.error.Error.TheVariants as json
 use Rattle.bidi_rows.specs.Rows.{Event, Reply, Row}
-use Rattle.bidi_rows.specs.Reading.{most_bytes, event_names, has_only, string_at, object_at, HasEvents, HasReply, HasPart, HasTimes, IsFor}
+use Rattle.bidi_rows.specs.Reading.{most_bytes, answer_names, event_names, hold_names, row_names, has_only, string_at, object_at, HasEvents, HasReply, HasPart, HasTimes, IsFor}
 use Rattle.bidi_rows.specs.declared.fault.RowFault.{RowFault}
 use Rattle.bidi_rows.specs.declared.fault.RowFault.TheVariants.{NoMemory, TooLong, NotJson, Unexpected, NoMethod, NoParams, DeepPart, BadTimes, BadReply, BadEvents}
 
@@ -116,3 +116,25 @@ RefusesFor j fault =
 -- Why properties are for no row that answers: they are for no row; or they are, but give no answer.
 abbrev pub RefusesAnswering : Json → RowFault → Type 0
 RefusesAnswering j fault = RefusesFor j fault ⊎ (((r : Row) × IsFor j r) × RefusesAnswer j fault)
+
+-- ---- texts
+
+-- Why a text is JSON for no event.
+abbrev pub RefusesEventText : List ℕ → RowFault → Type 0
+RefusesEventText = RefusesText RefusesEvent
+
+-- Why a text is JSON for no array of events with places, whose form is that of events.
+abbrev pub RefusesTemplates : List ℕ → RowFault → Type 0
+RefusesTemplates = RefusesText RefusesArray
+
+-- Why a text is JSON for no answer.
+abbrev pub RefusesAnswerText : List ℕ → RowFault → Type 0
+RefusesAnswerText = RefusesText (RefusesNames answer_names RefusesAnswer)
+
+-- Why a text is JSON for no row that holds.
+abbrev pub RefusesHolding : List ℕ → RowFault → Type 0
+RefusesHolding = RefusesText (RefusesNames hold_names RefusesFor)
+
+-- Why a text is JSON for no row that answers.
+abbrev pub RefusesRow : List ℕ → RowFault → Type 0
+RefusesRow = RefusesText (RefusesNames row_names RefusesAnswering)

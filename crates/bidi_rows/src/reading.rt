@@ -1,6 +1,5 @@
 //! Reading rows and answers.
-ghost use Rattle.std.specs.Prelude.{◌≡◌, ◌||◌, ℕ, List, None, Option, IfOk, is_some, codes, option_map, map};
-ghost use Rattle.json.specs.Json.{Json};
+ghost use Rattle.std.specs.Prelude.{◌≡◌, ◌||◌, List, None, Option, IfOk, is_some, codes, option_map, map};
 ghost use Rattle.json.specs.Find.{get};
 ghost use Rattle.json.specs.Tree.{HasNumbers};
 ghost use Rattle.json.specs.Value.{value_view};
@@ -8,10 +7,10 @@ ghost use Rattle.bidi_rows.specs.Part.{part_of};
 ghost use Rattle.bidi_rows.specs.Filling.{Template as Placed, template_of};
 ghost use Rattle.bidi_rows.specs.Rows as spec;
 ghost use Rattle.bidi_rows.specs.Rows.{Answers};
-ghost use Rattle.bidi_rows.specs.Refusals.{IfFails, IfRefused, IsText, RefusesAnswer, RefusesAnswering, RefusesArray, RefusesEvent, RefusesFor, RefusesNames, RefusesPart, RefusesReply, RefusesText, RefusesTimes};
+ghost use Rattle.bidi_rows.specs.Refusals.{IfFails, IfRefused, IsText, RefusesAnswer, RefusesAnswerText, RefusesEventText, RefusesFor, RefusesHolding, RefusesPart, RefusesReply, RefusesRow, RefusesTemplates, RefusesText, RefusesTimes};
 ghost use Rattle.bidi_rows.specs.Templates.{AreTemplateTexts};
 ghost use Rattle.bidi_rows.specs.View.{action_of, event_of, reply_of, answer_of, row_of};
-ghost use Rattle.bidi_rows.specs.Reading.{HasReply, HasAnswer, HasPart, HasTimes, IsFor, IsAnsweringRow, IsHoldingRow, IsAnswer, IsEventText, answer_names, hold_names, row_names};
+ghost use Rattle.bidi_rows.specs.Reading.{HasReply, HasAnswer, HasPart, HasTimes, IsFor, IsAnsweringRow, IsHoldingRow, IsAnswer, IsEventText};
 
 use crate::events::{event_in, events_in, templates_in};
 use crate::fault::RowFault;
@@ -54,7 +53,7 @@ pub fn read_row(alloc: Global, text: &str, scratch: &mut Scratch) -> Result<Row,
     // An error other than `NoMemory` comes only if the text is JSON for no row that answers.
     ensures refused { IfRefused result ((r : spec.Row) → IsAnsweringRow text.now r → ⊥) }
     // An error other than `NoMemory` is the first fault of the text that the definition has.
-    ensures why { IfFails result (RefusesText (RefusesNames row_names RefusesAnswering) text.now) }
+    ensures why { IfFails result (RefusesRow text.now) }
 {
     let value = parsed(alloc, text, scratch)?;
     if !has_only(&value, ROW_NAMES) {
@@ -75,7 +74,7 @@ pub fn read_hold(alloc: Global, text: &str, scratch: &mut Scratch) -> Result<Row
     // An error other than `NoMemory` comes only if the text is JSON for no row that holds.
     ensures refused { IfRefused result ((r : spec.Row) → IsHoldingRow text.now r → ⊥) }
     // An error other than `NoMemory` is the first fault of the text that the definition has.
-    ensures why { IfFails result (RefusesText (RefusesNames hold_names RefusesFor) text.now) }
+    ensures why { IfFails result (RefusesHolding text.now) }
 {
     let value = parsed(alloc, text, scratch)?;
     if !has_only(&value, HOLD_NAMES) {
@@ -96,7 +95,7 @@ pub fn read_answer(alloc: Global, text: &str, scratch: &mut Scratch) -> Result<A
     // An error other than `NoMemory` comes only if the text is JSON for no answer.
     ensures refused { IfRefused result ((a : spec.Answer) → IsAnswer text.now a → ⊥) }
     // An error other than `NoMemory` is the first fault of the text that the definition has.
-    ensures why { IfFails result (RefusesText (RefusesNames answer_names RefusesAnswer) text.now) }
+    ensures why { IfFails result (RefusesAnswerText text.now) }
 {
     let value = parsed(alloc, text, scratch)?;
     if !has_only(&value, ANSWER_NAMES) {
@@ -115,7 +114,7 @@ pub fn read_event(alloc: Global, text: &str, scratch: &mut Scratch) -> Result<Ev
     // An error other than `NoMemory` comes only if the text is JSON for no event.
     ensures refused { IfRefused result ((e : spec.Event) → IsEventText text.now e → ⊥) }
     // An error other than `NoMemory` is the first fault of the text that the definition has.
-    ensures why { IfFails result (RefusesText RefusesEvent text.now) }
+    ensures why { IfFails result (RefusesEventText text.now) }
 {
     let value = parsed(alloc, text, scratch)?;
     event_in(alloc, &value)
@@ -135,7 +134,7 @@ pub fn read_templates(
     // An error other than `NoMemory` comes only if the text is JSON for no array of such events.
     ensures refused { IfRefused result ((ts : List Placed) → AreTemplateTexts text.now ts → ⊥) }
     // An error other than `NoMemory` is the first fault of the text that the definition has.
-    ensures why { IfFails result (RefusesText RefusesArray text.now) }
+    ensures why { IfFails result (RefusesTemplates text.now) }
 {
     let value = parsed(alloc, text, scratch)?;
     templates_in(alloc, &value)

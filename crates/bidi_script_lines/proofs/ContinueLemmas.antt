@@ -37,14 +37,14 @@ accepted h i new s short = (i ∷ h, inr (i, refl, short), s)
 -- ---- what a scripted end took
 
 heard : (c : ℕ) (text : List ℕ) (h : List Input) (new : RemoteEnd) (t : Taken) → HearsText c text h new t → GoesOn h new
-heard c text h new t (i, is, sent, machine, stands, short) = accepted h i new stands short
+heard c text h new t (i, is, sent, stands, short) = accepted h i new stands short
 
 by-taking : (c : ℕ) (h : List Input) (s : ℕ) (asked : Option Asked) (old new : RemoteEnd) (script after : Script) (t : Taken) (k : Taking) → StandsFor old h
     → Takes c h s asked old script new after t k → GoesOn h new
 by-taking c h s asked old new script after t (Hears text) stands (hears, keeps) = heard c text h new t hears
-by-taking c h s asked old new script after t (Refuses id code) stands ((sent, machine, same), kept) = stays h old new stands same
-by-taking c h s asked old new script after t (Succeeds id) stands ((sent, machine, same), kept) = stays h old new stands same
-by-taking c h s asked old new script after t (Makes w scope) stands ((sent, machine, same), kept) = stays h old new stands same
+by-taking c h s asked old new script after t (Refuses id code) stands ((sent, same), kept) = stays h old new stands same
+by-taking c h s asked old new script after t (Succeeds id) stands ((sent, same), kept) = stays h old new stands same
+by-taking c h s asked old new script after t (Makes w scope) stands ((sent, same), kept) = stays h old new stands same
 
 by-session : (c : ℕ) (text : List ℕ) (h : List Input) (s : Option ℕ) (old new : RemoteEnd) (script after : Script) (t : Taken) → StandsFor old h
     → IsNamed c text h s old script new after t → GoesOn h new
@@ -59,11 +59,11 @@ by-names c text h old new script after t stands asked = by-session c text h (ses
 
 by-fate : (f : Fate) (h : List Input) (step : Step) (old new : RemoteEnd) (script after : Script) (t : Taken) → StandsFor old h
     → Becomes f h step old script new after t → GoesOn h new
-by-fate HandedOn h step old new script after t s (i, is, held, machine, sent, stands, kept, short) = accepted h i new stands short
-by-fate (Answered c command answer) h step old new script after t s (sent, held, machine, same, kept) = stays h old new s same
-by-fate (Held c command text) h step old new script after t s (sent, held, machine, same, kept) = stays h old new s same
-by-fate (Unheld c command) h step old new script after t s (sent, held, machine, same, kept) = stays h old new s same
-by-fate (AsksNames c text) h step old new script after t s (held, asked) = by-names c text h old new script after t s asked
+by-fate HandedOn h step old new script after t s (i, is, sent, stands, kept, short) = accepted h i new stands short
+by-fate (Answered c command answer) h step old new script after t s (sent, same, kept) = stays h old new s same
+by-fate (Held c command text) h step old new script after t s (sent, same, kept) = stays h old new s same
+by-fate (Unheld c command) h step old new script after t s (sent, same, kept) = stays h old new s same
+by-fate (AsksNames c text) h step old new script after t s asked = by-names c text h old new script after t s asked
 
 -- ---- what a line brings about
 
@@ -99,7 +99,7 @@ module _ (h : List Input) (old new : ScriptedEnd) (stands : StandsFor old.end h)
   released n o r true known lost is = let (sent, same, script) = r.lost lost in stays h old.end new.end stands same
   released n o r false [] lives is = let (i, heard_as, sent, gone, short, script) = r.goes_on lives is in accepted h i new.end gone short
   released n o r false (name ∷ names) lives is =
-      let (t, held, mid, asked, sent, script) = r.named lives (λ none. some-not-none name names (sym is ∙ none)) in
+      let (t, mid, asked, sent, script) = r.named lives (λ none. some-not-none name names (sym is ∙ none)) in
       by-names r.held.conn r.held.text h old.end new.end (script_of old.script) mid t stands asked
 
   -- after each line the end stands for a history that continues the one before

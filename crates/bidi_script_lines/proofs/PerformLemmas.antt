@@ -1,37 +1,40 @@
 -- What the calls of a scripted end bring about, as the outcome of a line.
-use Rattle.std.proofs.Common.{◌≡◌, ◌<◌, ◌≤◌, ◌+◌, ◌⊎◌, inl, inr, ℕ, Bool, true, false, ◌&&◌, List, [], ◌∷◌, length, map, Option, Some, None, Result, Ok, Err, refl, sym, ap, ◌∙◌, subst, arith}
-use Rattle.std.specs.Prelude.{if◌then◌else◌, nat_le, nat_lt, IfOk, OnOk, OnErr}
+use Rattle.std.proofs.Common.{◌≡◌, ◌<◌, ◌≤◌, ◌+◌, ◌⊎◌, inr, ℕ, Bool, true, false, ◌&&◌, List, length, Option, Some, None, Result, Ok, Err, refl, ap, subst, arith}
+use Rattle.std.specs.Prelude.{nat_le, nat_lt, IfOk, OnOk}
 use Rattle.std.specs.List.{list_all}
 use Rattle.std.proofs.lemmas.Bool.Decides.{nat_tests}
 use Rattle.bidi_rows.specs.Rows.{Row, Event, Answer}
 use Rattle.bidi_rows.specs.Filling.{Template}
 use Rattle.bidi_rows.specs.Reading.{IsAnswer, IsEventText}
 use Rattle.bidi_rows.specs.Templates.{AreTemplateTexts}
+use Rattle.bidi_rows.specs.declared.fault.RowFault.{RowFault}
+use Rattle.bidi_rows.proofs.RefusalLemmas.{no-answer-text, no-event-text, no-template-text}
 use Rattle.bidi_scripted.specs.declared.fault.ScriptFault.{ScriptFault}
 use Rattle.bidi_scripted.specs.declared.fault.ScriptFault.TheVariants.{NoMemory, WornOut, BadRow, TooManyRows, TooMuchKept, BadName, TooManyNames, NoRow, NotHeld}
 use Rattle.bidi_scripted.specs.Faults.{RefusesRow, RefusesRemoval, RefusesFollower, RefusesNames, RefusesEvent, RefusesRelease, RefusesAnswer}
 use Rattle.bidi_names.specs.Names.{words, can_be_known, new_words}
 use Rattle.bidi_scripted.specs.Script.{Script, most_rows, most_known, can_keep, has_room_for_row, has_room_for_follower, has_room_for_names, has_method}
 use Rattle.bidi_scripted.specs.Script as script
-use Rattle.std.specs.Option.{option_map_or}
-use Rattle.bidi_sessions.specs.View.{sent_of}
+use Rattle.bidi_remote.specs.Machine.Sent.{Sent}
 use Rattle.bidi_scripted.specs.declared.scripted_end.ScriptedEnd.{ScriptedEnd}
 use Rattle.bidi_scripted.specs.declared.scripted_end.Taken.{Taken}
-use Rattle.bidi_script_lines.specs.Outcomes.{Outcome, OfMachine, OfTest, Held, NoEffect, outcome_of}
+use Rattle.bidi_scripted.specs.declared.scripted_end.Taken.TheVariants as taken
+use Rattle.bidi_scripted.specs.Taken.{IsOfMachine, IsOfTest}
+use Rattle.bidi_script_lines.specs.Outcomes.{Outcome, OfMachine, OfTest, NoEffect, outcome_of}
 use Rattle.bidi_script_lines.specs.declared.outcome.Outcome as declared
 use Rattle.bidi_remote.specs.Machine.History.{Input}
 use Rattle.bidi_script_lines.specs.ScriptLines.{Line}
 use Rattle.bidi_script_lines.specs.Performing.{Brings, HasReason, HasNoEffect, IsUnchanged, StandsAsBefore, can_know, taken_outcome}
 
--- what the test sends, if no command was held
-pub taken-of_test : (t : Taken) → t.held ≡ None → t.is_of_machine ≡ false → taken_outcome t ≡ OfTest (map sent_of t.sent.items)
-taken-of_test t held machine =
-    λ i. option_map_or Held (held i) (if machine i then OfMachine (map sent_of t.sent.items) else OfTest (map sent_of t.sent.items))
+-- what the test sends
+pub taken-of_test : (t : Taken) (sent : List Sent) → IsOfTest sent t → taken_outcome t ≡ OfTest sent
+taken-of_test (taken.Answered all) sent is = ap OfTest is
+taken-of_test t sent is = absurd is
 
--- what the remote end sends, if no command was held
-pub taken-of_machine : (t : Taken) → t.held ≡ None → t.is_of_machine ≡ true → taken_outcome t ≡ OfMachine (map sent_of t.sent.items)
-taken-of_machine t held machine =
-    λ i. option_map_or Held (held i) (if machine i then OfMachine (map sent_of t.sent.items) else OfTest (map sent_of t.sent.items))
+-- what the remote end sends
+pub taken-of_machine : (t : Taken) (sent : List Sent) → IsOfMachine sent t → taken_outcome t ≡ OfMachine sent
+taken-of_machine (taken.HandedOn all) sent is = ap OfMachine is
+taken-of_machine t sent is = absurd is
 
 ok-err : {T E : Type 0} {t : T} {e : E} → Ok t ≡ Err e → ⊥
 ok-err e = cc
@@ -78,19 +81,19 @@ first true c e = cc
 first false c e = refl
 
 -- a row is not added
-pub no-row : (IsRow : Row → Type 0) (s : Script) (bytes : ℕ) (f : ScriptFault) → HasReason f → RefusesRow IsRow s bytes f
-    → (row : Row) → IsRow row → has_room_for_row s bytes ≡ false
-no-row IsRow s bytes NoMemory some why row is = absurd some
-no-row IsRow s bytes (BadRow g) some why row is = absurd (why row is)
-no-row IsRow s bytes TooManyRows some why row is = full (length s.rows) most_rows (can_keep s bytes) why.1
-no-row IsRow s bytes TooMuchKept some why row is = unkept (nat_lt (length s.rows) most_rows) (can_keep s bytes) why.2
-no-row IsRow s bytes f some why row is = absurd why
+pub no-row : (R : RowFault → Type 0) (IsRow : Row → Type 0) → ((g : RowFault) → R g → (row : Row) → IsRow row → ⊥) → (s : Script) (bytes : ℕ) (f : ScriptFault)
+    → HasReason f → RefusesRow R IsRow s bytes f → (row : Row) → IsRow row → has_room_for_row s bytes ≡ false
+no-row R IsRow none s bytes NoMemory some why row is = absurd some
+no-row R IsRow none s bytes (BadRow g) some why row is = absurd (none g why row is)
+no-row R IsRow none s bytes TooManyRows some why row is = full (length s.rows) most_rows (can_keep s bytes) why.1
+no-row R IsRow none s bytes TooMuchKept some why row is = unkept (nat_lt (length s.rows) most_rows) (can_keep s bytes) why.2
+no-row R IsRow none s bytes f some why row is = absurd why
 
 -- events do not follow others
 pub no-follower : (text : List ℕ) (s : Script) (f : ScriptFault) → HasReason f → RefusesFollower text s f
     → (ts : List Template) → AreTemplateTexts text ts → has_room_for_follower s (length text) ≡ false
 no-follower text s NoMemory some why ts are = absurd some
-no-follower text s (BadRow g) some why ts are = absurd (why ts are)
+no-follower text s (BadRow g) some why ts are = absurd (no-template-text text g why ts are)
 no-follower text s TooManyRows some why ts are = full (length s.followers) most_rows (can_keep s (length text)) why.1
 no-follower text s TooMuchKept some why ts are = unkept (nat_lt (length s.followers) most_rows) (can_keep s (length text)) why.2
 no-follower text s f some why ts are = absurd why
@@ -116,7 +119,7 @@ no-removal method s f some why = absurd why
 pub no-event : (text : List ℕ) (f : ScriptFault) → HasReason f → RefusesEvent text f → (e : Event) → IsEventText text e → ⊥
 no-event text NoMemory some why e is = some
 no-event text WornOut some why e is = some
-no-event text (BadRow g) some why e is = why e is
+no-event text (BadRow g) some why e is = no-event-text text g why e is
 no-event text f some why e is = why
 
 -- a command is not released
@@ -135,5 +138,5 @@ pub no-answer : (text : List ℕ) (o : Option script.Held) (f : ScriptFault) →
 no-answer text o NoMemory some why held answer was is = some
 no-answer text o WornOut some why held answer was is = some
 no-answer text o NotHeld some why held answer was is = none-some why was
-no-answer text o (BadRow g) some why held answer was is = why answer is
+no-answer text o (BadRow g) some why held answer was is = no-answer-text text g why.1 answer is
 no-answer text o f some why held answer was is = why

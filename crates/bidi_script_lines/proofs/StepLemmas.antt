@@ -1,5 +1,5 @@
 -- A step that a scripted end takes, as the outcome of a line.
-use Rattle.std.proofs.Common.{◌≡◌, ℕ, Bool, true, false, true≢false, arith, length, List, [], ◌∷◌, ◌++◌, map, Option, Some, None, Result, Ok, Err, refl, sym, ap, subst, ◌∙◌}
+use Rattle.std.proofs.Common.{◌≡◌, ℕ, Bool, true, false, true≢false, arith, length, List, [], ◌∷◌, ◌++◌, map, Option, Some, None, Ok, Err, refl, ap, ◌∙◌}
 use Rattle.std.specs.Prelude.{codes, not, ◌==◌}
 use Rattle.std.specs.Option.{option_map_or}
 use Rattle.std.proofs.lemmas.Bool.Decides.{nat_tests}
@@ -7,9 +7,7 @@ use Rattle.json.specs.Json.{Json, document}
 use Rattle.bidi_rows.specs.Reading.{object_at, string_at}
 use Rattle.bidi_play.specs.Lines.{written}
 use Rattle.bidi_sessions.specs.Step.{Step}
-use Rattle.bidi_sessions.specs.View.{sent_of}
-use Rattle.bidi_remote.specs.Machine.Messages.{AllReadBack}
-use Rattle.bidi_remote.specs.Machine.Sent.{Sent, Text}
+use Rattle.bidi_remote.specs.Machine.Sent.{Sent, Text, out}
 use Rattle.bidi_remote.specs.declared.remote_end.RemoteFault.{RemoteFault}
 use Rattle.bidi_scripted.specs.Script.{Follower, no_script}
 use Rattle.bidi_scripted.specs.Sending.{following, followers_of, followed_by}
@@ -61,10 +59,9 @@ takes-step step old new t o on is = record {
     on.ok.0,
     on.ok.1,
     λ h s. (
-      ap (outcome_text no_script) (is ∙ taken-of_machine t on.ok.2 on.ok.3)
-          ∙ (ap written (with-none (map sent_of t.sent.items)) ∙ ap written (on.ok.4 h s).0),
-      subst AllReadBack (on.ok.4 h s).0 (on.ok.4 h s).1,
-      (on.ok.4 h s).2,
+      ap (outcome_text no_script) (is ∙ taken-of_machine t (out h on.ok.0) (on.ok.2 h s).0) ∙ ap written (with-none (out h on.ok.0)),
+      (on.ok.2 h s).1,
+      (on.ok.2 h s).2,
     ),
   );
   err = tt;

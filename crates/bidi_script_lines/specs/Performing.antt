@@ -1,7 +1,6 @@
 -- What each line of a scripted play brings about, in the words of the scripted end. Defined by this project.
-use Rattle.std.specs.Prelude.{◌≡◌, ◌≢◌, ◌⊎◌, ℕ, ◌≤◌, ◌%◌, ◌==◌, nat_le, Bool, true, false, ◌&&◌, ◌||◌, if◌then◌else◌, List, [], ◌∷◌, length, map, IfOk, OnErr, IsErrOf, ◌↔◌, Result, Some, None}
+use Rattle.std.specs.Prelude.{◌≡◌, ◌≢◌, ◌⊎◌, ℕ, ◌≤◌, ◌%◌, ◌==◌, nat_le, Bool, true, false, ◌&&◌, ◌||◌, List, [], ◌∷◌, length, map, IfOk, OnErr, IsErrOf, ◌↔◌, Result, Some, None}
 use Rattle.std.specs.List.{list_all}
-use Rattle.std.specs.Option.{option_map_or}
 use Rattle.bidi_sessions.specs.Step.{Step}
 use Rattle.bidi_sessions.specs.Limits.{most_steps}
 use Rattle.bidi_remote.specs.Machine.History.{Input, Drop, IsHeardAs}
@@ -29,6 +28,7 @@ use Rattle.bidi_scripted.specs.declared.fault.ScriptFault.{ScriptFault}
 use Rattle.bidi_scripted.specs.declared.fault.ScriptFault.TheVariants as faults
 use Rattle.bidi_scripted.specs.declared.scripted_end.ScriptedEnd.{ScriptedEnd}
 use Rattle.bidi_scripted.specs.declared.scripted_end.Taken.{Taken}
+use Rattle.bidi_scripted.specs.declared.scripted_end.Taken.TheVariants as taken
 use Rattle.bidi_sessions.specs.View.{sent_of}
 use Rattle.bidi_play.specs.Lines.{written}
 use Rattle.bidi_script_lines.specs.Outcomes.{Outcome, OfMachine, OfTest, Held, NoEffect, Bytes, Raw, Stalled, Resumed, Cut, CutAfter, Closed, Refusing, outcome_of, outcome_text}
@@ -100,9 +100,11 @@ OnOpen c h old new o P = ((is_open (deeds h) c ≡ false) × HasNoEffect old new
 abbrev pub Drops : ℕ → List Input → ScriptedEnd → ScriptedEnd → Type 0
 Drops c h old new = StandsFor new.end (Drop c ∷ h) × (script_of new.script ≡ script_of old.script) × IsShort h
 
--- the outcome of what a scripted end took: a command that is held, or what the remote end or the test sends
+-- the outcome of what became of a step: what the remote end sends, what the test sends, or a command that is held
 abbrev pub taken_outcome : Taken → Outcome
-taken_outcome t = option_map_or Held t.held (if t.is_of_machine then OfMachine (map sent_of t.sent.items) else OfTest (map sent_of t.sent.items))
+taken_outcome (taken.HandedOn sent) = OfMachine (map sent_of sent.items)
+taken_outcome (taken.Answered sent) = OfTest (map sent_of sent.items)
+taken_outcome (taken.Held number) = Held number
 
 -- The held command of this number is released: if its connection is gone it is lost, and otherwise it goes on as it came, or, while names are
 -- known, as a message that may ask for them. It is held no longer, and nothing else of the script changes but the subscriptions to names.
@@ -115,7 +117,7 @@ pub record Releases (n : ℕ) (h : List Input) (old new : ScriptedEnd) (o : Outc
       → (i : Input) × IsHeardAs (steps.Text held.conn held.text) i × (o ≡ OfMachine (out h i)) × StandsFor new.end (i ∷ h) × IsShort h
       × (script_of new.script ≡ without_held n (script_of old.script))
   pub named : held.is_lost ≡ false → (script_of old.script).known ≢ []
-      → (t : Taken) × (t.held ≡ None) × (mid : Script) × NamesAsked held.conn held.text h old.end (script_of old.script) new.end mid t × (o ≡ taken_outcome t)
+      → (t : Taken) × (mid : Script) × NamesAsked held.conn held.text h old.end (script_of old.script) new.end mid t × (o ≡ taken_outcome t)
       × (script_of new.script ≡ without_held n mid)
   pub released : OnlySubscriptionsChange (without_held n (script_of old.script)) (script_of new.script)
 

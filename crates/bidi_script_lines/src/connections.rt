@@ -1,5 +1,5 @@
 //! Lines by which a test sends on a connection, stalls, cuts and closes it, and refuses handshakes.
-ghost use Rattle.std.specs.Prelude.{◌≡◌, ◌≤◌, ◌⊎◌, ◌∷◌, [], List, length, true, false, IfOk, IfSome, IfNone, OnErr, IsErrOf, map, string_bytes};
+ghost use Rattle.std.specs.Prelude.{◌≡◌, ◌≤◌, ◌⊎◌, ◌∷◌, [], List, length, true, false, IfOk, IfSome, IfNone, OnOk, OnErr, IsErrOf, map, string_bytes};
 ghost use Rattle.std.specs.List.{list_all};
 ghost use Rattle.bidi_sessions.specs.Limits.{most_steps};
 ghost use Rattle.bidi_sessions.specs.View.{sent_of};
@@ -138,7 +138,7 @@ pub(crate) fn cut(
     if !end.is_open(conn) {
         return no_effect(alloc, NOT_OPEN);
     }
-    end.step(Step::Drop(conn))?;
+    drop_connection(end, conn)?;
     Ok(Outcome::Cut(conn))
 }
 
@@ -178,8 +178,20 @@ pub(crate) fn close(
     let Some(code) = close_code(code) else {
         return no_effect(alloc, NO_CODE);
     };
-    end.step(Step::Drop(conn))?;
+    drop_connection(end, conn)?;
     Ok(Outcome::Closed(conn, code))
+}
+
+// Has the remote end drop a connection.
+fn drop_connection(end: &mut ScriptedEnd, conn: JsUint) -> Result<(), RemoteFault>
+    ensures drops { (h : List Input) → StandsFor end.old.end h → OnOk result (Drops conn.value h end.old end.new) }
+    ensures err { OnErr result (StandsAsBefore end.old end.new) }
+    ensures worn_out { (h : List Input) → StandsFor end.old.end h → IsErrOf result RemoteFault.WornOut → most_steps ≤ length h }
+{
+    match end.step(Step::Drop(conn)) {
+        Ok(_) => Ok(()),
+        Err(fault) => Err(fault),
+    }
 }
 
 /// Has handshakes refused.

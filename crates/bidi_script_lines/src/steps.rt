@@ -52,14 +52,9 @@ pub(crate) fn hear(end: &mut ScriptedEnd, conn: JsUint, text: &str) -> Result<Ou
 pub(crate) fn of_taken(taken: Taken) -> Outcome
     ensures { outcome_of result ≡ taken_outcome taken }
 {
-    let Taken {
-        sent,
-        is_of_machine,
-        held,
-    } = taken;
-    match held {
-        Some(number) => Outcome::Held(number),
-        None if is_of_machine => Outcome::OfMachine(sent),
-        None => Outcome::Sent(sent),
+    match taken {
+        Taken::HandedOn(sent) => Outcome::OfMachine(sent),
+        Taken::Answered(sent) => Outcome::Sent(sent),
+        Taken::Held(number) => Outcome::Held(number),
     }
 }

@@ -1,15 +1,16 @@
 -- What becomes of a message, by what was found for it.
-use Rattle.std.proofs.Common.{◌≡◌, ◌∙◌, ◌≤◌, ℕ, Bool, true, false, true≢false, ◌&&◌, ◌⊎◌, inl, inr, List, [], ◌∷◌, length, map, Option, Some, None, Result, Ok, Err, refl, sym, ap, subst, arith}
+use Rattle.std.proofs.Common.{◌≡◌, ◌∙◌, ◌≤◌, ℕ, Bool, true, false, true≢false, ◌&&◌, ◌⊎◌, inl, inr, List, [], ◌∷◌, length, map, Option, Some, None, Result, Ok, Err, Vec, Global, refl, sym, ap, subst, arith}
 use Rattle.std.specs.Prelude.{◌==◌, find, if◌then◌else◌, IfOk, OnOk, OnErr, IsErrOf, ◌↔◌, unwrap_or}
 use Rattle.std.specs.List.{position}
 use Rattle.std.proofs.lemmas.Bool.Decides.{nat_tests}
 use Rattle.std.proofs.Math.Nat.{lt_of_not-le}
 use Rattle.bidi_rows.specs.Command.{Command, command_of}
 use Rattle.bidi_rows.specs.Rows.{Row, Answer, Action, Answers, Holds, matches}
-use Rattle.bidi_remote.specs.Machine.History.{Input, Deed}
+use Rattle.bidi_remote.specs.Machine.History.{Input, Deed, IsHeardAs}
+use Rattle.bidi_remote.specs.Machine.Messages.{AllReadBack}
 use Rattle.bidi_remote.specs.Machine.Connections.{is_open}
 use Rattle.bidi_remote.specs.Machine.Outcome.{deeds}
-use Rattle.bidi_remote.specs.Machine.Sent.{Sent, Text}
+use Rattle.bidi_remote.specs.Machine.Sent.{Sent, Text, out}
 use Rattle.bidi_remote.specs.State.Stands.{StandsFor, IsShort}
 use Rattle.bidi_remote.specs.declared.remote_end.RemoteFault.{RemoteFault}
 use Rattle.bidi_remote.specs.declared.remote_end.RemoteFault.TheVariants.{WornOut}
@@ -21,6 +22,8 @@ use Rattle.bidi_params.specs.declared.error_code.ErrorCode.TheVariants.{UnknownE
 use Rattle.bidi_messages.specs.Message.{error_text}
 use Rattle.bidi_remote.specs.declared.remote_end.RemoteEnd.{RemoteEnd}
 use Rattle.bidi_scripted.specs.declared.scripted_end.Taken.{Taken}
+use Rattle.bidi_scripted.specs.declared.scripted_end.Taken.TheVariants as code
+use Rattle.bidi_scripted.specs.Taken.{IsOfTest, handed}
 use Rattle.bidi_scripted.specs.Sending.{answer_sent}
 use Rattle.bidi_scripted.specs.Script.{Script, no_script, is_plain, has_room_for_command, with_use, with_held}
 use Rattle.bidi_scripted.specs.Fate.{Fate, HandedOn, Answered, Held, Unheld, AsksNames, asks_names, is_json, by_action, by_row, by_command, fate, after_step}
@@ -130,6 +133,19 @@ not-worn t h worn = lt_of_not-le (λ many. ok_err (worn.1 many))
 
 -- ---- what is handed on
 
+-- what the remote end says of a step is that it is handed on
+pub as-handed : (step : Step) (old new : RemoteEnd) (r : Result (Vec declared_sent.Sent Global) RemoteFault)
+    → IfOk r (λ sent. (i : Input) × IsHeardAs step i × ((h : List Input) → StandsFor old h → (map sent_of sent.items ≡ out h i) × StandsFor new (i ∷ h)))
+    → ((h : List Input) → StandsFor old h → IfOk r (λ sent. AllReadBack (map sent_of sent.items)))
+    → OnErr r ((h : List Input) → StandsFor old h → StandsFor new h)
+    → ((h : List Input) → StandsFor old h → IsErrOf r WornOut ↔ (most_steps ≤ length h)) → IsHandedOn step old new (handed r)
+as-handed step old new (Ok sent) ok reads err worn = record {
+  ok = (ok.0, ok.1, λ h s. ((ok.2 h s).0, subst AllReadBack (ok.2 h s).0 (reads h s), (ok.2 h s).1));
+  err = tt;
+  worn_out = λ h s. worn-ok _ _ _ (worn h s);
+}
+as-handed step old new (Err e) ok reads err worn = record { ok = tt; err = err; worn_out = λ h s. worn-err _ _ (worn h s) }
+
 -- a step that was handed on came before the last
 pub on-short : (step : Step) (old new : RemoteEnd) (t : Taken) (h : List Input) → StandsFor old h → IsHandedOn step old new (Ok t) → IsShort h
 on-short step old new t h s on = not-worn t h (on.worn_out h s)
@@ -139,13 +155,12 @@ pub handed_on : (step : Step) (old new : RemoteEnd) (script after : Script) (r :
     → IsHandedOn step old new r → after ≡ after_step (deeds h) step script → IfOk r (λ t. Becomes HandedOn h step old script new after t)
 handed_on step old new script after (Err e) h s on same = tt
 handed_on step old new script after (Ok t) h s on same =
-    (on.ok.0, on.ok.1, on.ok.2, on.ok.3, (on.ok.4 h s).0, (on.ok.4 h s).2, same, on-short step old new t h s on)
+    (on.ok.0, on.ok.1, (on.ok.2 h s).0, (on.ok.2 h s).2, same, on-short step old new t h s on)
 
 -- a message that the remote end heard
-pub heard-on : (c : ℕ) (text : List ℕ) (old new : RemoteEnd) (script : Script) (sent : List declared_sent.Sent) (t : Taken) (h : List Input) → StandsFor old h
-    → IsHeard c text old new sent → t.sent.items ≡ sent → t.is_of_machine ≡ true → t.held ≡ None → Becomes HandedOn h (steps.Text c text) old script new script t
-heard-on c text old new script sent t h s heard same machine held =
-    let it = heard.2 h s in (heard.0, heard.1, held, machine, ap (map sent_of) same ∙ it.0, it.2, refl, it.3)
+pub heard-on : (c : ℕ) (text : List ℕ) (old new : RemoteEnd) (script : Script) (sent : Vec declared_sent.Sent Global) (h : List Input) → StandsFor old h
+    → IsHeard c text old new sent.items → Becomes HandedOn h (steps.Text c text) old script new script (code.HandedOn sent)
+heard-on c text old new script sent h s heard = let it = heard.2 h s in (heard.0, heard.1, it.0, it.2, refl, it.3)
 
 -- what becomes of a step, by another name of its fate
 pub becomes : (f g : Fate) (step : Step) (old new : RemoteEnd) (script after : Script) (r : Result Taken RemoteFault) (h : List Input) → f ≡ g
@@ -196,7 +211,7 @@ opened-ok : (step : Step) (old new : RemoteEnd) (script after : Script) (r : Res
     → IsHandedOn step old new r → OnOk r (after ≡ after_step (deeds h) step script) → IfOk r (λ t. Becomes HandedOn h step old script new after t)
 opened-ok step old new script after (Err e) h s on same = tt
 opened-ok step old new script after (Ok t) h s on same =
-    (on.ok.0, on.ok.1, on.ok.2, on.ok.3, (on.ok.4 h s).0, (on.ok.4 h s).2, same, on-short step old new t h s on)
+    (on.ok.0, on.ok.1, (on.ok.2 h s).0, (on.ok.2 h s).2, same, on-short step old new t h s on)
 
 opened-err : (r : Result Taken RemoteFault) (A B : Type 0) → OnErr r A → OnErr r B → OnErr r (A × B)
 opened-err (Ok t) A B a b = tt
@@ -277,21 +292,19 @@ if-ok-on (Err e) f p x = tt
 -- there is no room
 pub hold-refused : {E : Type 0} (script : Script) (c : ℕ) (text : List ℕ) (command : Command) (id : ℕ) (h : List Input) (step : Step) (end : RemoteEnd)
     (r : Result Taken E) → has_room_for_command script (length text) ≡ false → command.id ≡ id
-    → IfOk r (λ t. (map sent_of t.sent.items ≡ Text c (error_text (Some id) UnknownError) ∷ []) × (t.held ≡ None) × (t.is_of_machine ≡ false))
-    → IfOk r (λ t. Becomes (by_action script c text command Holds) h step end script end script t)
+    → IfOk r (IsOfTest (Text c (error_text (Some id) UnknownError) ∷ [])) → IfOk r (λ t. Becomes (by_action script c text command Holds) h step end script end script t)
 hold-refused script c text command id h step end (Err e) full same is = tt
 hold-refused script c text command id h step end (Ok t) full same is =
     subst (λ f. Becomes f h step end script end script t) (sym (ap (λ b. if b then Held c command text else Unheld c command) full))
-    (is.0 ∙ ap (λ n. Text c (error_text (Some n) UnknownError) ∷ []) (sym same), is.1, is.2, refl, refl)
+    (subst (λ n. IsOfTest (Text c (error_text (Some n) UnknownError) ∷ []) t) (sym same) is, refl, refl)
 
 -- there is room
-pub hold-held : (script after : Script) (c : ℕ) (text : List ℕ) (command : Command) (id number : ℕ) (h : List Input) (step : Step) (end : RemoteEnd) (t : Taken)
-    → has_room_for_command script (length text) ≡ true → command.id ≡ id → t.sent.items ≡ [] → t.held ≡ Some number → number ≡ script.next
-    → t.is_of_machine ≡ false → after ≡ with_held c id text (with_use command script)
-    → Becomes (by_action script c text command Holds) h step end script end after t
-hold-held script after c text command id number h step end t room same none held is machine holds =
-    subst (λ f. Becomes f h step end script end after t) (sym (ap (λ b. if b then Held c command text else Unheld c command) room))
-    (none, held ∙ ap Some is, machine, refl, holds ∙ ap (λ n. with_held c n text (with_use command script)) (sym same))
+pub hold-held : (script after : Script) (c : ℕ) (text : List ℕ) (command : Command) (id number : ℕ) (h : List Input) (step : Step) (end : RemoteEnd)
+    → has_room_for_command script (length text) ≡ true → command.id ≡ id → number ≡ script.next → after ≡ with_held c id text (with_use command script)
+    → Becomes (by_action script c text command Holds) h step end script end after (code.Held number)
+hold-held script after c text command id number h step end room same is holds =
+    subst (λ f. Becomes f h step end script end after (code.Held number)) (sym (ap (λ b. if b then Held c command text else Unheld c command) room))
+    (is, refl, holds ∙ ap (λ n. with_held c n text (with_use command script)) (sym same))
 
 -- ---- what is found
 

@@ -1,11 +1,11 @@
 -- Why a call of a test has no effect.
-use Rattle.std.proofs.Common.{◌≡◌, ◌∙◌, ℕ, Result, Ok, Err, refl, sym, subst}
+use Rattle.std.proofs.Common.{◌≡◌, ◌∙◌, ℕ, Result, Ok, Err, sym, subst}
 use Rattle.std.specs.Prelude.{IfErr}
 use Rattle.std.specs.Result.{IsErrAnd}
 use Rattle.bidi_rows.specs.declared.fault.RowFault.{RowFault}
 use Rattle.bidi_rows.specs.declared.fault.RowFault.TheVariants as rows
 use Rattle.bidi_rows.specs.Rows.{Row}
-use Rattle.bidi_rows.specs.Refusals.{WhenRefused}
+use Rattle.bidi_rows.specs.Refusals.{HasReason}
 use Rattle.bidi_remote.specs.declared.remote_end.RemoteFault.{RemoteFault}
 use Rattle.bidi_remote.specs.declared.remote_end.RemoteFault.TheVariants as remote
 use Rattle.bidi_scripted.specs.declared.fault.ScriptFault.{ScriptFault}
@@ -14,15 +14,16 @@ use Rattle.bidi_scripted.specs.Faults.{fault_of, fault_of_row, RefusesRow}
 use Rattle.bidi_scripted.specs.Script.{Script}
 
 -- a text that was not read
-pub not-read : {P : Type 0} (W : ScriptFault → Type 0) (e : RowFault) → WhenRefused e P → W NoMemory → ((f : RowFault) → P → W (BadRow f)) → W (fault_of_row e)
-not-read W rows.NoMemory w m f = m
-not-read W e w m f = f e w
+pub not-read : {R : RowFault → Type 0} (W : ScriptFault → Type 0) (e : RowFault) → HasReason R e → W NoMemory → ((f : RowFault) → R f → W (BadRow f))
+    → W (fault_of_row e)
+not-read W rows.NoMemory why m f = m
+not-read W e why m f = f e why
 
 -- the fault of a text that was not read, as `?` returns it
-pub refused : {Y : Type 0} {P : Type 0} (W : ScriptFault → Type 0) (e : RowFault) (r : Result Y ScriptFault) → IsErrAnd r (λ y. y ≡ fault_of_row e) → WhenRefused e P
-    → W NoMemory → ((f : RowFault) → P → W (BadRow f)) → IfErr r W
-refused W e (Ok y) h w m f = tt
-refused W e (Err y) h w m f = subst W (sym h) (not-read W e w m f)
+pub refused : {Y : Type 0} {R : RowFault → Type 0} (W : ScriptFault → Type 0) (e : RowFault) (r : Result Y ScriptFault) → IsErrAnd r (λ y. y ≡ fault_of_row e)
+    → HasReason R e → W NoMemory → ((f : RowFault) → R f → W (BadRow f)) → IfErr r W
+refused W e (Ok y) h why m f = tt
+refused W e (Err y) h why m f = subst W (sym h) (not-read W e why m f)
 
 err-same : {T E : Type 0} {y z : E} → ◌≡◌ {A = Result T E} (Err y) (Err z) → y ≡ z
 err-same e = cc
@@ -57,12 +58,13 @@ remote-refused W e (Ok y) h m w = tt
 remote-refused W e (Err y) h m w = subst W (sym h) (remote-fault W e m w)
 
 -- why a row that was read is not added
-pub not-added : (IsRow : Row → Type 0) (x : Row) (s : Script) (n : ℕ) → IsRow x → (f : ScriptFault) → RefusesRow (λ r. r ≡ x) s n f → RefusesRow IsRow s n f
-not-added IsRow x s n is NoMemory w = tt
-not-added IsRow x s n is (BadRow g) w = absurd (w x refl)
-not-added IsRow x s n is TooManyRows w = ((x, is), w.1)
-not-added IsRow x s n is TooMuchKept w = ((x, is), w.1, w.2)
-not-added IsRow x s n is f w = absurd w
+pub not-added : (R : RowFault → Type 0) (IsRow : Row → Type 0) (x : Row) (s : Script) (n : ℕ) → IsRow x → (f : ScriptFault)
+    → RefusesRow (λ g. ⊥) (λ r. r ≡ x) s n f → RefusesRow R IsRow s n f
+not-added R IsRow x s n is NoMemory w = tt
+not-added R IsRow x s n is (BadRow g) w = absurd w
+not-added R IsRow x s n is TooManyRows w = ((x, is), w.1)
+not-added R IsRow x s n is TooMuchKept w = ((x, is), w.1, w.2)
+not-added R IsRow x s n is f w = absurd w
 
 -- one fact of a fault for another
 pub if-err : {T E : Type 0} {P Q : E → Type 0} (r : Result T E) → ((e : E) → P e → Q e) → IfErr r P → IfErr r Q

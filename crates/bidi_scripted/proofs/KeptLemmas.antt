@@ -1,5 +1,5 @@
 -- What becomes of a message that asks for names of a test.
-use Rattle.std.proofs.Common.{◌≡◌, ◌∙◌, ◌<◌, ◌^◌, ℕ, suc, Bool, true, false, not, List, [], ◌∷◌, map, length, Option, Some, None, Result, Ok, Err, IfOk, refl, sym, ap, subst, arith}
+use Rattle.std.proofs.Common.{◌≡◌, ◌∙◌, ◌<◌, ◌^◌, ℕ, suc, Bool, true, false, not, List, [], ◌∷◌, map, length, Option, Some, None, Result, Ok, Err, Vec, Global, IfOk, refl, sym, ap, subst, arith}
 use Rattle.std.specs.Prelude.{◌==◌, if◌then◌else◌, MatchBool, codes}
 use Rattle.std.specs.List.{list_all}
 use Rattle.std.proofs.lemmas.Bool.Decides.{nat_tests}
@@ -15,16 +15,18 @@ use Rattle.bidi_sessions.specs.declared.step.Sent as declared_sent
 use Rattle.bidi_sessions.proofs.ListLemmas.{some-same}
 use Rattle.bidi_remote.specs.Machine.History.{Input, Deed}
 use Rattle.bidi_remote.specs.Machine.Outcome.{deeds}
-use Rattle.bidi_remote.specs.Machine.Sent.{Text}
+use Rattle.bidi_remote.specs.Machine.Sent.{Text, out}
 use Rattle.bidi_remote.specs.State.Stands.{StandsFor}
 use Rattle.bidi_remote.specs.declared.remote_end.RemoteEnd.{RemoteEnd}
 use Rattle.bidi_remote.specs.declared.remote_end.RemoteFault.{RemoteFault}
 use Rattle.bidi_scripted.specs.declared.scripted_end.Taken.{Taken}
+use Rattle.bidi_scripted.specs.declared.scripted_end.Taken.TheVariants.{HandedOn}
+use Rattle.bidi_scripted.specs.Taken.{IsOfTest}
 use Rattle.bidi_names.specs.Asked.{Asked, Wanted, Subscribes, Unsubscribes, Ends, ending_text}
 use Rattle.bidi_handles.specs.Ids.{id_text}
 use Rattle.bidi_handles.specs.declared.id.IdKind.TheVariants.{Subscription}
 use Rattle.bidi_names.specs.Replies.{succeeded, Gives, AreNumbers, id_result}
-use Rattle.bidi_names.specs.Subscriptions.{Named, holds_globally, dismissed, cancelled}
+use Rattle.bidi_names.specs.Subscriptions.{holds_globally, dismissed, cancelled}
 use Rattle.bidi_names.proofs.ReplyLemmas.{none_some}
 use Rattle.bidi_scripted.specs.Becomes.{IsHandedOn}
 use Rattle.bidi_scripted.proofs.FateLemmas.{on-short}
@@ -35,16 +37,16 @@ use Rattle.bidi_scripted.specs.Kept.{Taking, next_alone, with_made, keeps_any, H
 -- ---- what the machine heard
 
 -- a message that was handed on
-pub hears : (c : ℕ) (text : List ℕ) (old new : RemoteEnd) (t : Taken) (h : List Input) → StandsFor old h → IsHandedOn (steps.Text c text) old new (Ok t)
+abbrev pub hears : (c : ℕ) (text : List ℕ) (old new : RemoteEnd) (t : Taken) (h : List Input) → StandsFor old h → IsHandedOn (steps.Text c text) old new (Ok t)
     → HearsText c text h new t
-hears c text old new t h s on = (on.ok.0, on.ok.1, (on.ok.4 h s).0, on.ok.3, (on.ok.4 h s).2, on-short (steps.Text c text) old new t h s on)
+hears c text old new t h s on = (on.ok.0, on.ok.1, (on.ok.2 h s).0, (on.ok.2 h s).2, on-short (steps.Text c text) old new t h s on)
 
 -- a message of a connection that speaks for no session
 pub named-none : (c : ℕ) (text : List ℕ) (old new : RemoteEnd) (script after : Script) (r : Result Taken RemoteFault) (h : List Input) (o : Option ℕ) → o ≡ None
-    → StandsFor old h → IsHandedOn (steps.Text c text) old new r → after ≡ script → IfOk r (λ t. (t.held ≡ None) × IsNamed c text h o old script new after t)
+    → StandsFor old h → IsHandedOn (steps.Text c text) old new r → after ≡ script → IfOk r (λ t. IsNamed c text h o old script new after t)
 named-none c text old new script after (Err e) h o none s on same = tt
 named-none c text old new script after (Ok t) h o none s on same =
-    (on.ok.2, subst (λ x. IsNamed c text h x old script new after t) (sym none) (hears c text old new t h s on, same))
+    subst (λ x. IsNamed c text h x old script new after t) (sym none) (hears c text old new t h s on, same)
 
 -- whatever the test is
 pub either-way : (b : Bool) (P : Type 0) → P → MatchBool b P P
@@ -53,35 +55,33 @@ either-way false P p = p
 
 -- a message that asks nothing of names
 pub takes-none : (c : ℕ) (text : List ℕ) (old new : RemoteEnd) (script after : Script) (r : Result Taken RemoteFault) (h : List Input) (s : ℕ) → StandsFor old h
-    → IsHandedOn (steps.Text c text) old new r → after ≡ script → IfOk r (λ t. (t.held ≡ None) × Takes c h s None old script new after t (Hears text))
+    → IsHandedOn (steps.Text c text) old new r → after ≡ script → IfOk r (λ t. Takes c h s None old script new after t (Hears text))
 takes-none c text old new script after (Err e) h s stands on same = tt
 takes-none c text old new script after (Ok t) h s stands on same =
-    (on.ok.2, (hears c text old new t h stands on, either-way (succeeded (map sent_of t.sent.items)) (after ≡ script) same))
+    (hears c text old new t h stands on, either-way (succeeded (out h on.ok.0)) (after ≡ script) same)
 
 -- ---- answers in place of the machine
 
 module _ (c : ℕ) (h : List Input) (s : ℕ) (asked : Option Asked) (end : RemoteEnd) (script : Script) (r : Result Taken RemoteFault) where
   -- an error
   pub takes-refused : (id : ℕ) (code : ErrorCode)
-      → IfOk r (λ t. (t.held ≡ None) × (map sent_of t.sent.items ≡ Text c (error_text (Some id) code) ∷ []) × (t.is_of_machine ≡ false))
-      → IfOk r (λ t. (t.held ≡ None) × Takes c h s asked end script end script t (Refuses id code))
+      → IfOk r (IsOfTest (Text c (error_text (Some id) code) ∷ [])) → IfOk r (λ t. Takes c h s asked end script end script t (Refuses id code))
   takes-refused id code answers = of r answers
     where
-      of : (x : Result Taken RemoteFault) → IfOk x (λ t. (t.held ≡ None) × (map sent_of t.sent.items ≡ Text c (error_text (Some id) code) ∷ []) × (t.is_of_machine ≡ false))
-          → IfOk x (λ t. (t.held ≡ None) × Takes c h s asked end script end script t (Refuses id code))
+      of : (x : Result Taken RemoteFault) → IfOk x (IsOfTest (Text c (error_text (Some id) code) ∷ []))
+          → IfOk x (λ t. Takes c h s asked end script end script t (Refuses id code))
       of (Err e) a = tt
-      of (Ok t) a = (a.0, ((a.1, a.2, refl), refl))
+      of (Ok t) a = ((a, refl), refl)
 
   -- the same of a way of taking that is equal
-  pub takes-as : (new : RemoteEnd) (after : Script) (a b : Taking) → a ≡ b → IfOk r (λ t. (t.held ≡ None) × Takes c h s asked end script new after t a)
-      → IfOk r (λ t. (t.held ≡ None) × Takes c h s asked end script new after t b)
-  takes-as new after a b e p = subst (λ x. IfOk r (λ t. (t.held ≡ None) × Takes c h s asked end script new after t x)) e p
+  pub takes-as : (new : RemoteEnd) (after : Script) (a b : Taking) → a ≡ b → IfOk r (λ t. Takes c h s asked end script new after t a)
+      → IfOk r (λ t. Takes c h s asked end script new after t b)
+  takes-as new after a b e p = subst (λ x. IfOk r (λ t. Takes c h s asked end script new after t x)) e p
 
 -- an empty result, after which what was asked is left so
 pub takes-succeeded : (c : ℕ) (h : List Input) (s : ℕ) (asked : Option Asked) (end : RemoteEnd) (script after : Script) (t : Taken) (id : ℕ)
-    → (t.held ≡ None) × (map sent_of t.sent.items ≡ Text c (reply_text id (ResultOf (codes "{}"))) ∷ []) × (t.is_of_machine ≡ false)
-    → Leaves s asked script after → (t.held ≡ None) × Takes c h s asked end script end after t (Succeeds id)
-takes-succeeded c h s asked end script after t id a leaves = (a.0, ((a.1, a.2, refl), leaves))
+    → IsOfTest (Text c (reply_text id (ResultOf (codes "{}"))) ∷ []) t → Leaves s asked script after → Takes c h s asked end script end after t (Succeeds id)
+takes-succeeded c h s asked end script after t id a leaves = ((a, refl), leaves)
 
 -- ---- which way a command is taken
 
@@ -151,78 +151,75 @@ yes-then b A B e a = subst (λ x. MatchBool x A B) (sym e) a
 no-else : (b : Bool) (A B : Type 0) → b ≡ false → B → MatchBool b A B
 no-else b A B e a = subst (λ x. MatchBool x A B) (sym e) a
 
-module _ (c : ℕ) (text : List ℕ) (h : List Input) (s : ℕ) (old new : RemoteEnd) (script after : Script) (t : Taken) (stands : StandsFor old h)
-    (on : IsHandedOn (steps.Text c text) old new (Ok t)) where
+module _ (c : ℕ) (text : List ℕ) (h : List Input) (s : ℕ) (old new : RemoteEnd) (script after : Script) (sent : Vec declared_sent.Sent Global)
+    (stands : StandsFor old h) (on : IsHandedOn (steps.Text c text) old new (Ok (HandedOn sent))) where
   -- what was asked is kept so
-  pub takes-heard : (asked : Option Asked) → Keeps (deeds h) s asked (map sent_of t.sent.items) script after
-      → (t.held ≡ None) × Takes c h s asked old script new after t (Hears text)
-  takes-heard asked keeps = (on.ok.2, (hears c text old new t h stands on, keeps))
+  pub takes-heard : (asked : Option Asked) → Keeps (deeds h) s asked (map sent_of sent.items) script after
+      → Takes c h s asked old script new after (HandedOn sent) (Hears text)
+  takes-heard asked keeps =
+      (hears c text old new (HandedOn sent) h stands on, subst (λ xs. Keeps (deeds h) s asked xs script after) (on.ok.2 h stands).0 keeps)
 
   -- names are given back
-  pub takes-dismissed : (w : Wanted) → succeeded (map sent_of t.sent.items) ≡ true → after ≡ record script { named = dismissed s w.foreign w.modules script.named }
-      → (t.held ≡ None) × Takes c h s (Some (Unsubscribes w)) old script new after t (Hears text)
-  takes-dismissed w done same = takes-heard (Some (Unsubscribes w)) (yes-then (succeeded (map sent_of t.sent.items)) _ _ done same)
+  pub takes-dismissed : (w : Wanted) → succeeded (map sent_of sent.items) ≡ true → after ≡ record script { named = dismissed s w.foreign w.modules script.named }
+      → Takes c h s (Some (Unsubscribes w)) old script new after (HandedOn sent) (Hears text)
+  takes-dismissed w done same = takes-heard (Some (Unsubscribes w)) (yes-then (succeeded (map sent_of sent.items)) _ _ done same)
 
   -- they are not, as the machine refused
-  pub takes-undismissed : (w : Wanted) → succeeded (map sent_of t.sent.items) ≡ false → after ≡ script
-      → (t.held ≡ None) × Takes c h s (Some (Unsubscribes w)) old script new after t (Hears text)
-  takes-undismissed w failed same = takes-heard (Some (Unsubscribes w)) (no-else (succeeded (map sent_of t.sent.items)) _ _ failed same)
+  pub takes-undismissed : (w : Wanted) → succeeded (map sent_of sent.items) ≡ false → after ≡ script
+      → Takes c h s (Some (Unsubscribes w)) old script new after (HandedOn sent) (Hears text)
+  takes-undismissed w failed same = takes-heard (Some (Unsubscribes w)) (no-else (succeeded (map sent_of sent.items)) _ _ failed same)
 
   -- subscriptions end
-  pub takes-cancelled : (id : ℕ) (ids : List (List ℕ)) (ns : List ℕ) → AreNumbers (id_text Subscription s) ids ns → succeeded (map sent_of t.sent.items) ≡ true
-      → after ≡ record script { named = cancelled s ns script.named } → (t.held ≡ None) × Takes c h s (Some (Ends id ids)) old script new after t (Hears text)
+  pub takes-cancelled : (id : ℕ) (ids : List (List ℕ)) (ns : List ℕ) → AreNumbers (id_text Subscription s) ids ns → succeeded (map sent_of sent.items) ≡ true
+      → after ≡ record script { named = cancelled s ns script.named } → Takes c h s (Some (Ends id ids)) old script new after (HandedOn sent) (Hears text)
   takes-cancelled id ids ns numbers done same =
-      takes-heard (Some (Ends id ids)) (yes-then (succeeded (map sent_of t.sent.items)) _ _ done (ns, numbers, same))
+      takes-heard (Some (Ends id ids)) (yes-then (succeeded (map sent_of sent.items)) _ _ done (ns, numbers, same))
 
-  pub takes-uncancelled : (id : ℕ) (ids : List (List ℕ)) → succeeded (map sent_of t.sent.items) ≡ false → after ≡ script
-      → (t.held ≡ None) × Takes c h s (Some (Ends id ids)) old script new after t (Hears text)
-  takes-uncancelled id ids failed same = takes-heard (Some (Ends id ids)) (no-else (succeeded (map sent_of t.sent.items)) _ _ failed same)
+  pub takes-uncancelled : (id : ℕ) (ids : List (List ℕ)) → succeeded (map sent_of sent.items) ≡ false → after ≡ script
+      → Takes c h s (Some (Ends id ids)) old script new after (HandedOn sent) (Hears text)
+  takes-uncancelled id ids failed same = takes-heard (Some (Ends id ids)) (no-else (succeeded (map sent_of sent.items)) _ _ failed same)
 
 -- ---- a subscription
 
 -- the test keeps it alone, and answers with its id
 pub takes-made : (c : ℕ) (h : List Input) (s : ℕ) (end : RemoteEnd) (script after : Script) (t : Taken) (w : Wanted) (scope : Scope) (number : ℕ) (text : List ℕ)
-    → (t.held ≡ None) × (map sent_of t.sent.items ≡ Text c (reply_text w.id (ResultOf text)) ∷ []) × (t.is_of_machine ≡ false)
-    → text ≡ id_result s number → number ≡ next_alone script
+    → IsOfTest (Text c (reply_text w.id (ResultOf text)) ∷ []) t → text ≡ id_result s number → number ≡ next_alone script
     → after ≡ record script { named = with_made (sessions (deeds h)) s number w scope script.named; made = suc script.made }
-    → (t.held ≡ None) × Takes c h s (Some (Subscribes w)) end script end after t (Makes w scope)
+    → Takes c h s (Some (Subscribes w)) end script end after t (Makes w scope)
 takes-made c h s end script after t w scope number text a e is same = (
-  a.0,
-  (
-    (a.1 ∙ ap (λ x. Text c (reply_text w.id (ResultOf x)) ∷ []) (e ∙ ap (id_result s) is), a.2, refl),
-    same ∙ ap (λ n. record script { named = with_made (sessions (deeds h)) s n w scope script.named; made = suc script.made }) is,
-  ),
+  (subst (λ x. IsOfTest (Text c (reply_text w.id (ResultOf x)) ∷ []) t) (e ∙ ap (id_result s) is) a, refl),
+  same ∙ ap (λ n. record script { named = with_made (sessions (deeds h)) s n w scope script.named; made = suc script.made }) is,
 )
 
-module _ (c : ℕ) (text part : List ℕ) (h : List Input) (s : ℕ) (old new : RemoteEnd) (script after : Script) (t : Taken) (stands : StandsFor old h)
-    (on : IsHandedOn (steps.Text c text) old new (Ok t)) (same : text ≡ part) (w : Wanted) (scope : Scope) (is : scope_wanted (deeds h) w ≡ Ok scope)
-    (sent : List declared_sent.Sent) (all : sent ≡ t.sent.items) where
-  heard : IsHandedOn (steps.Text c part) old new (Ok t)
-  heard = subst (λ x. IsHandedOn (steps.Text c x) old new (Ok t)) same on
+module _ (c : ℕ) (text part : List ℕ) (h : List Input) (s : ℕ) (old new : RemoteEnd) (script after : Script) (all : Vec declared_sent.Sent Global)
+    (stands : StandsFor old h) (on : IsHandedOn (steps.Text c text) old new (Ok (HandedOn all))) (same : text ≡ part) (w : Wanted) (scope : Scope)
+    (is : scope_wanted (deeds h) w ≡ Ok scope) (sent : List declared_sent.Sent) (are : sent ≡ all.items) where
+  heard : IsHandedOn (steps.Text c part) old new (Ok (HandedOn all))
+  heard = subst (λ x. IsHandedOn (steps.Text c x) old new (Ok (HandedOn all))) same on
 
   -- the machine made it, and what it does not know of it is kept
   pub takes-subscribed : (n : ℕ) → (n < 2 ^ 48) × Gives s (map sent_of sent) n
       → ((m : ℕ) → m < 2 ^ 48 → Gives s (map sent_of sent) m → Some n ≡ Some m)
       → after ≡ (if keeps_any w then record script { named = with_made (sessions (deeds h)) s n w scope script.named } else script)
-      → (t.held ≡ None) × Takes c h s (Some (Subscribes w)) old script new after t (Hears part)
+      → Takes c h s (Some (Subscribes w)) old script new after (HandedOn all) (Hears part)
   takes-subscribed n some every kept =
-      let gives = subst (λ xs. Gives s (map sent_of xs) n) all some.1 in
-      takes-heard c part h s old new script after t stands heard (Some (Subscribes w)) (
+      let gives = subst (λ xs. Gives s (map sent_of xs) n) are some.1 in
+      takes-heard c part h s old new script after all stands heard (Some (Subscribes w)) (
         (λ m small g. (
           scope,
           is,
           kept ∙ ap (λ k. if keeps_any w then record script { named = with_made (sessions (deeds h)) s k w scope script.named } else script)
-              (some-same _ _ (every m small (subst (λ xs. Gives s (map sent_of xs) m) (sym all) g))),
+              (some-same _ _ (every m small (subst (λ xs. Gives s (map sent_of xs) m) (sym are) g))),
         )),
         (λ none. absurd (none n some.0 gives)),
       )
 
   -- the machine made none
   pub takes-unsubscribed : ((m : ℕ) → m < 2 ^ 48 → Gives s (map sent_of sent) m → (let none : Option ℕ = None in none ≡ Some m)) → after ≡ script
-      → (t.held ≡ None) × Takes c h s (Some (Subscribes w)) old script new after t (Hears part)
+      → Takes c h s (Some (Subscribes w)) old script new after (HandedOn all) (Hears part)
   takes-unsubscribed every kept =
-      takes-heard c part h s old new script after t stands heard (Some (Subscribes w)) (
-        (λ m small g. absurd (none_some _ (every m small (subst (λ xs. Gives s (map sent_of xs) m) (sym all) g)))),
+      takes-heard c part h s old new script after all stands heard (Some (Subscribes w)) (
+        (λ m small g. absurd (none_some _ (every m small (subst (λ xs. Gives s (map sent_of xs) m) (sym are) g)))),
         (λ none. kept),
       )
 

@@ -27,6 +27,7 @@ use Rattle.bidi_scripted.specs.declared.finding.Looked.TheVariants as looked
 use Rattle.bidi_sessions.specs.declared.step.Sent as declared_step
 use Rattle.bidi_names.specs.Subscriptions.{Named}
 use Rattle.bidi_scripted.specs.Script.{Script, no_script, with_use, with_held}
+use Rattle.bidi_scripted.specs.Taken.{IsHeldAs, IsOfMachine, IsOfTest}
 use Rattle.bidi_scripted.specs.Kept.{NamesAsked}
 use Rattle.bidi_scripted.specs.Fate.{Fate, HandedOn, Answered, Held, Unheld, AsksNames, asks_names, is_json, fate, after_step}
 use Rattle.bidi_scripted.specs.Sending.{answer_sent}
@@ -34,24 +35,22 @@ use Rattle.bidi_scripted.specs.Sending.{answer_sent}
 -- The step is handed on to the remote end as it came: what the machine sends for it is sent, and each string that is sent reads back. After an
 -- error the remote end stands for the histories that it stood for before, and `WornOut` comes exactly if it has accepted `most_steps` steps.
 pub record IsHandedOn (step : Step) (old new : RemoteEnd) (result : Result Taken RemoteFault) : Type 0 where
-  pub ok : IfOk result (λ t. (i : Input) × IsHeardAs step i × (t.held ≡ None) × (t.is_of_machine ≡ true)
-      × ((h : List Input) → StandsFor old h → (map sent_of t.sent.items ≡ out h i) × AllReadBack (map sent_of t.sent.items) × StandsFor new (i ∷ h)))
+  pub ok : IfOk result (λ t. (i : Input) × IsHeardAs step i
+      × ((h : List Input) → StandsFor old h → IsOfMachine (out h i) t × AllReadBack (out h i) × StandsFor new (i ∷ h)))
   pub err : OnErr result ((h : List Input) → StandsFor old h → StandsFor new h)
   pub worn_out : (h : List Input) → StandsFor old h → IsErrOf result WornOut ↔ (most_steps ≤ length h)
 
 -- The step brings about what its fate means, for a remote end and a script: this is sent, and they are so afterwards.
 abbrev pub Becomes : Fate → List Input → Step → RemoteEnd → Script → RemoteEnd → Script → Taken → Type 0
 Becomes HandedOn h step old script new after t =
-    (i : Input) × IsHeardAs step i × (t.held ≡ None) × (t.is_of_machine ≡ true) × (map sent_of t.sent.items ≡ out h i) × StandsFor new (i ∷ h)
-    × (after ≡ after_step (deeds h) step script) × IsShort h
+    (i : Input) × IsHeardAs step i × IsOfMachine (out h i) t × StandsFor new (i ∷ h) × (after ≡ after_step (deeds h) step script) × IsShort h
 Becomes (Answered c command answer) h step old script new after t =
-    (map sent_of t.sent.items ≡ answer_sent (deeds h) script.named c command.id answer) × (t.held ≡ None) × (t.is_of_machine ≡ false)
-    × (new ≡ old) × (after ≡ with_use command script)
+    IsOfTest (answer_sent (deeds h) script.named c command.id answer) t × (new ≡ old) × (after ≡ with_use command script)
 Becomes (Held c command text) h step old script new after t =
-    (t.sent.items ≡ []) × (t.held ≡ Some script.next) × (t.is_of_machine ≡ false) × (new ≡ old) × (after ≡ with_held c command.id text (with_use command script))
+    IsHeldAs script.next t × (new ≡ old) × (after ≡ with_held c command.id text (with_use command script))
 Becomes (Unheld c command) h step old script new after t =
-    (map sent_of t.sent.items ≡ Text c (error_text (Some command.id) UnknownError) ∷ []) × (t.held ≡ None) × (t.is_of_machine ≡ false) × (new ≡ old) × (after ≡ script)
-Becomes (AsksNames c text) h step old script new after t = (t.held ≡ None) × NamesAsked c text h old script new after t
+    IsOfTest (Text c (error_text (Some command.id) UnknownError) ∷ []) t × (new ≡ old) × (after ≡ script)
+Becomes (AsksNames c text) h step old script new after t = NamesAsked c text h old script new after t
 
 -- The step was taken: with an empty script it was handed on and the script stays empty; it brought about what its fate means; and after an
 -- error the script is as it was, and the remote end stands for the histories that it stood for before. `WornOut` comes only if the remote end

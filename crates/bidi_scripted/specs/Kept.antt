@@ -11,7 +11,6 @@ use Rattle.bidi_handles.specs.declared.id.IdKind.TheVariants.{Subscription}
 use Rattle.bidi_sessions.specs.EventNames.{all_named}
 use Rattle.bidi_sessions.specs.Limits.{most_subscriptions}
 use Rattle.bidi_sessions.specs.Step as steps
-use Rattle.bidi_sessions.specs.View.{sent_of}
 use Rattle.bidi_sessions.specs.Scope.{Scope}
 use Rattle.bidi_rows.specs.Rows.{Result as ResultOf, reply_text}
 use Rattle.bidi_remote.specs.Machine.History.{Input, Deed, IsHeardAs, acts}
@@ -23,6 +22,7 @@ use Rattle.bidi_remote.specs.Machine.Sent.{Sent, out, Text}
 use Rattle.bidi_remote.specs.State.Stands.{StandsFor, IsShort}
 use Rattle.bidi_remote.specs.declared.remote_end.RemoteEnd.{RemoteEnd}
 use Rattle.bidi_scripted.specs.declared.scripted_end.Taken.{Taken}
+use Rattle.bidi_scripted.specs.Taken.{IsOfMachine, IsOfTest}
 use Rattle.bidi_names.specs.Subscriptions.{Named, holds_globally, dismissed, cancelled, of_active, is_too_many, unlisted, other_ids}
 use Rattle.bidi_names.specs.Replies.{succeeded, Gives, AreNumbers, id_result}
 use Rattle.bidi_names.specs.Asked.{Asked, Wanted, Subscribes, Unsubscribes, Ends, asked_of, ending_text}
@@ -135,17 +135,16 @@ Keeps past s asked sent script after = MatchBool (succeeded sent) (Leaves s aske
 -- The machine, which still accepts steps, hears this text on the connection, and what it sends is sent.
 abbrev pub HearsText : ℕ → List ℕ → List Input → RemoteEnd → Taken → Type 0
 HearsText c text h new t =
-    (i : Input) × IsHeardAs (steps.Text c text) i × (map sent_of t.sent.items ≡ out h i) × (t.is_of_machine ≡ true) × StandsFor new (i ∷ h)
-    × IsShort h
+    (i : Input) × IsHeardAs (steps.Text c text) i × IsOfMachine (out h i) t × StandsFor new (i ∷ h) × IsShort h
 
 -- The remote end is as it was, and this text answers the command on the connection.
 abbrev pub AnswersBy : ℕ → List ℕ → RemoteEnd → RemoteEnd → Taken → Type 0
-AnswersBy c text old new t = (map sent_of t.sent.items ≡ Text c text ∷ []) × (t.is_of_machine ≡ false) × (new ≡ old)
+AnswersBy c text old new t = IsOfTest (Text c text ∷ []) t × (new ≡ old)
 
 -- A message of a session that asks this is taken in this way.
 abbrev pub Takes : ℕ → List Input → ℕ → Option Asked → RemoteEnd → Script → RemoteEnd → Script → Taken → Taking → Type 0
 Takes c h s asked old script new after t (Hears text) =
-    HearsText c text h new t × Keeps (deeds h) s asked (map sent_of t.sent.items) script after
+    (heard : HearsText c text h new t) × Keeps (deeds h) s asked (out h heard.0) script after
 Takes c h s asked old script new after t (Refuses id code) = AnswersBy c (error_text (Some id) code) old new t × (after ≡ script)
 Takes c h s asked old script new after t (Succeeds id) = AnswersBy c (reply_text id (ResultOf (codes "{}"))) old new t × Leaves s asked script after
 Takes c h s asked old script new after t (Makes w scope) =

@@ -1,6 +1,7 @@
 pub mod Slots
 pub mod Methods
 pub mod Script
+pub mod Taken
 pub mod Kept
 pub mod Fate
 pub mod Sending

@@ -1,10 +1,10 @@
 //! Answers to commands in place of the remote end.
-ghost use Rattle.std.specs.Prelude.{◌≡◌, [], ◌∷◌, Some, None, Ok, false, map, codes, IfOk, IsErrOf, string_bytes};
+ghost use Rattle.std.specs.Prelude.{[], ◌∷◌, Some, codes, IfOk, IsErrOf, string_bytes};
 ghost use Rattle.bidi_messages.specs.Message.{error_text};
 ghost use Rattle.bidi_rows.specs.Rows as rows;
 ghost use Rattle.bidi_rows.specs.Rows.{reply_text};
 ghost use Rattle.bidi_remote.specs.Machine.Sent.{Text};
-ghost use Rattle.bidi_sessions.specs.View.{sent_of};
+ghost use Rattle.bidi_scripted.specs.Taken.{IsOfTest};
 
 use crate::scripted_end::{ScriptedEnd, Taken, only};
 use bidi_messages::ErrorCode;
@@ -23,7 +23,7 @@ impl ScriptedEnd {
         id: JsUint,
         code: ErrorCode,
     ) -> Result<Taken, RemoteFault>
-        ensures answers { IfOk result (λ t. (t.held ≡ None) × (map sent_of t.sent.items ≡ Text conn.value (error_text (Some id.value) code) ∷ []) × (t.is_of_machine ≡ false)) }
+        ensures answers { IfOk result (IsOfTest (Text conn.value (error_text (Some id.value) code) ∷ [])) }
         ensures worn_out { IsErrOf result RemoteFault.WornOut → ⊥ }
     {
         match self.refuse(conn, id, code) {
@@ -34,7 +34,7 @@ impl ScriptedEnd {
 
     /// Answers a command by an empty result.
     pub(crate) fn succeed(&self, conn: JsUint, id: JsUint) -> Result<Taken, RemoteFault>
-        ensures answers { IfOk result (λ t. (t.held ≡ None) × (map sent_of t.sent.items ≡ Text conn.value (reply_text id.value (rows.Result (codes "{}"))) ∷ []) × (t.is_of_machine ≡ false)) }
+        ensures answers { IfOk result (IsOfTest (Text conn.value (reply_text id.value (rows.Result (codes "{}"))) ∷ [])) }
         ensures worn_out { IsErrOf result RemoteFault.WornOut → ⊥ }
     {
         let empty = String::from_str(self.alloc, EMPTY)?;
@@ -48,14 +48,11 @@ impl ScriptedEnd {
         id: JsUint,
         result_text: String,
     ) -> Result<Taken, RemoteFault>
-        ensures answers { IfOk result (λ t. (t.held ≡ None) × (map sent_of t.sent.items ≡ Text conn.value (reply_text id.value (rows.Result (string_bytes result_text))) ∷ []) × (t.is_of_machine ≡ false)) }
+        ensures answers { IfOk result (IsOfTest (Text conn.value (reply_text id.value (rows.Result (string_bytes result_text))) ∷ [])) }
         ensures worn_out { IsErrOf result RemoteFault.WornOut → ⊥ }
     {
         let text = reply_text(self.alloc, id, &Reply::Result(result_text))?;
-        Ok(Taken {
-            sent: only(self.alloc, Sent::Text(conn, SentText::Own(text)))?,
-            is_of_machine: false,
-            held: None,
-        })
+        let answer = Sent::Text(conn, SentText::Own(text));
+        Ok(Taken::Answered(only(self.alloc, answer)?))
     }
 }

@@ -1,9 +1,10 @@
 //! The calls of a test.
 ghost use Rattle.std.specs.List.{list_all};
-ghost use Rattle.std.specs.Prelude.{◌≡◌, ◌≢◌, ◌≤◌, ◌==◌, not, [], ◌∷◌, List, ℕ, map, length, true, false, Option, Some, None, Err, IfOk, IfErr, OnOk, OnErr, IsErrOf, option_map, string_bytes};
+ghost use Rattle.std.specs.Prelude.{◌≡◌, ◌≢◌, ◌≤◌, ◌==◌, not, [], ◌∷◌, List, map, length, true, false, Option, Some, None, Err, IfOk, IfErr, OnOk, OnErr, IsErrOf, option_map, string_bytes};
 ghost use Rattle.bidi_sessions.specs.Limits.{most_steps};
 ghost use Rattle.bidi_sessions.specs.View.{sent_of};
 ghost use Rattle.bidi_sessions.specs.Step as steps;
+ghost use Rattle.bidi_rows.specs.Refusals as texts;
 ghost use Rattle.bidi_rows.specs.Rows as spec;
 ghost use Rattle.bidi_rows.specs.Filling.{Template};
 ghost use Rattle.bidi_rows.specs.Templates.{AreTemplateTexts};
@@ -14,11 +15,12 @@ ghost use Rattle.bidi_remote.specs.Machine.Outcome.{deeds};
 ghost use Rattle.bidi_remote.specs.Machine.Sent.{out, Lost};
 ghost use Rattle.bidi_remote.specs.State.Stands.{StandsFor, IsShort};
 ghost use Rattle.bidi_scripted.specs.Script as script;
-ghost use Rattle.bidi_scripted.specs.Script.{OnlySubscriptionsChange, most_rows, can_keep, has_room_for_row, has_room_for_follower, has_room_for_names, with_row, with_follower, with_names, has_method, without_method, without_held, held_by};
+ghost use Rattle.bidi_scripted.specs.Script.{OnlySubscriptionsChange, can_keep, has_room_for_row, has_room_for_follower, has_room_for_names, with_row, with_follower, with_names, has_method, without_method, without_held, held_by};
 ghost use Rattle.bidi_names.specs.Names.{is_known, words, can_be_known};
 ghost use Rattle.bidi_scripted.specs.Faults.{RefusesRow, RefusesRemoval, RefusesFollower, RefusesNames, RefusesEvent, RefusesRelease, RefusesAnswer};
 ghost use Rattle.bidi_scripted.specs.Kept.{NamesAsked};
 ghost use Rattle.bidi_scripted.specs.Sending.{emitted, release_sent, followed_by};
+ghost use Rattle.bidi_scripted.specs.Taken.{IsOfMachine, IsOfTest};
 ghost use Rattle.bidi_scripted.specs.View.{script_of, held_of};
 ghost use Rattle.bidi_scripted.specs.declared.fault.ScriptFault.TheVariants.{NotHeld};
 
@@ -47,8 +49,8 @@ impl ScriptedEnd {
         ensures ok { OnOk result ((r : spec.Row) × IsAnsweringRow row.now r × (script_of self.new.script ≡ with_row r (script_of self.old.script))) }
         // An Ok comes only if there was room for the row.
         ensures room { OnOk result (has_room_for_row (script_of self.old.script) (length row.now) ≡ true) }
-        // An error has a reason of the definition: `BadRow`, `TooManyRows` or `TooMuchKept`, in this order.
-        ensures refused { IfErr result (RefusesRow (IsAnsweringRow row.now) (script_of self.old.script) (length row.now)) }
+        // An error is the first that the definition has: `BadRow` with the fault of the text, `TooManyRows` or `TooMuchKept`.
+        ensures why { IfErr result (RefusesRow (texts.RefusesRow row.now) (IsAnsweringRow row.now) (script_of self.old.script) (length row.now)) }
         // After an error the script is as it was.
         ensures err { OnErr result (script_of self.new.script ≡ script_of self.old.script) }
         // The remote end is unchanged.
@@ -72,8 +74,8 @@ impl ScriptedEnd {
         ensures ok { OnOk result ((r : spec.Row) × IsHoldingRow row.now r × (script_of self.new.script ≡ with_row r (script_of self.old.script))) }
         // An Ok comes only if there was room for the row.
         ensures room { OnOk result (has_room_for_row (script_of self.old.script) (length row.now) ≡ true) }
-        // An error has a reason of the definition: `BadRow`, `TooManyRows` or `TooMuchKept`, in this order.
-        ensures refused { IfErr result (RefusesRow (IsHoldingRow row.now) (script_of self.old.script) (length row.now)) }
+        // An error is the first that the definition has: `BadRow` with the fault of the text, `TooManyRows` or `TooMuchKept`.
+        ensures why { IfErr result (RefusesRow (texts.RefusesHolding row.now) (IsHoldingRow row.now) (script_of self.old.script) (length row.now)) }
         // After an error the script is as it was.
         ensures err { OnErr result (script_of self.new.script ≡ script_of self.old.script) }
         // The remote end is unchanged.
@@ -89,7 +91,7 @@ impl ScriptedEnd {
     // Adds a row, if there is room.
     fn add_row(&mut self, row: Row) -> Result<(), ScriptFault>
         ensures room { OnOk result (has_room_for_row (script_of self.old.script) row.bytes ≡ true) }
-        ensures refused { IfErr result (RefusesRow (λ r. r ≡ row_of row) (script_of self.old.script) row.bytes) }
+        ensures why { IfErr result (RefusesRow (λ fault. ⊥) (λ r. r ≡ row_of row) (script_of self.old.script) row.bytes) }
         ensures ok { OnOk result (script_of self.new.script ≡ with_row (row_of row) (script_of self.old.script)) }
         ensures err { OnErr result (script_of self.new.script ≡ script_of self.old.script) }
         ensures end { self.new.end ≡ self.old.end }
@@ -113,8 +115,8 @@ impl ScriptedEnd {
         ensures ok { OnOk result (script_of self.new.script ≡ without_method method.now (script_of self.old.script)) }
         // An Ok comes only if there was a row of this method.
         ensures some { OnOk result (has_method method.now (script_of self.old.script) ≡ true) }
-        // An error has a reason of the definition: there is no row of this method.
-        ensures refused { IfErr result (RefusesRemoval method.now (script_of self.old.script)) }
+        // An error has the reason of the definition: there is no row of this method.
+        ensures why { IfErr result (RefusesRemoval method.now (script_of self.old.script)) }
         // After an error the script is as it was.
         ensures err { OnErr result (script_of self.new.script ≡ script_of self.old.script) }
         // The remote end is unchanged.
@@ -142,23 +144,23 @@ impl ScriptedEnd {
     pub fn release(&mut self, number: u64) -> Result<Taken, ScriptFault>
         // If no command of this number is held, the call fails with `NotHeld`.
         ensures not_held { held_by number (script_of self.old.script) ≡ None → result ≡ Err NotHeld }
-        // An error has a reason of the definition: `NotHeld` comes only if no command of this number is held.
-        ensures refused { IfErr result (RefusesRelease (held_by number (script_of self.old.script))) }
+        // An error is the first that the definition has: `NotHeld` if no command of this number is held, or `WornOut`.
+        ensures why { IfErr result (RefusesRelease (held_by number (script_of self.old.script))) }
         // A command whose connection was opened anew is lost, and the remote end is unchanged.
         ensures lost { (held : script.Held) → held_by number (script_of self.old.script) ≡ Some held → held.is_lost ≡ true
-            → IfOk result (λ t. (map sent_of t.sent.items ≡ Lost held.conn ∷ []) × (t.is_of_machine ≡ false) × (t.held ≡ None) × (self.new.end ≡ self.old.end)
+            → IfOk result (λ t. IsOfTest (Lost held.conn ∷ []) t × (self.new.end ≡ self.old.end)
             × (script_of self.new.script ≡ without_held number (script_of self.old.script))) }
         // Any other is handed on to the remote end as it came if no names are known, and what the machine sends for it is sent; of the script,
         // only this command is gone.
         ensures handed_on { (held : script.Held) → held_by number (script_of self.old.script) ≡ Some held → held.is_lost ≡ false
             → (script_of self.old.script).known ≡ []
-            → IfOk result (λ t. (i : Input) × IsHeardAs (steps.Text held.conn held.text) i × (t.is_of_machine ≡ true) × (t.held ≡ None)
-            × ((h : List Input) → StandsFor self.old.end h → (map sent_of t.sent.items ≡ out h i) × StandsFor self.new.end (i ∷ h) × IsShort h)
+            → IfOk result (λ t. (i : Input) × IsHeardAs (steps.Text held.conn held.text) i
+            × ((h : List Input) → StandsFor self.old.end h → IsOfMachine (out h i) t × StandsFor self.new.end (i ∷ h) × IsShort h)
             × (script_of self.new.script ≡ without_held number (script_of self.old.script))) }
         // While names are known, it is taken as a message that may ask for them; then this command is gone.
         ensures named { (h : List Input) (held : script.Held) → StandsFor self.old.end h → held_by number (script_of self.old.script) ≡ Some held
             → held.is_lost ≡ false → (script_of self.old.script).known ≢ []
-            → IfOk result (λ t. (t.held ≡ None) × (mid : script.Script) × NamesAsked held.conn held.text h self.old.end (script_of self.old.script) self.new.end mid t
+            → IfOk result (λ t. (mid : script.Script) × NamesAsked held.conn held.text h self.old.end (script_of self.old.script) self.new.end mid t
             × (script_of self.new.script ≡ without_held number mid)) }
         // After an Ok, the command is held no longer, so it cannot be released again, and nothing else of the script has changed but the
         // subscriptions to names.
@@ -184,21 +186,17 @@ impl ScriptedEnd {
 
     // Releases a command whose connection is gone.
     fn release_lost(&mut self, number: u64, conn: JsUint) -> Result<Taken, ScriptFault>
-        ensures lost { IfOk result (λ t. (map sent_of t.sent.items ≡ Lost conn.value ∷ []) × (t.is_of_machine ≡ false) × (t.held ≡ None)) }
+        ensures lost { IfOk result (IsOfTest (Lost conn.value ∷ [])) }
         ensures released { OnOk result (script_of self.new.script ≡ without_held number (script_of self.old.script)) }
         ensures err { OnErr result (script_of self.new.script ≡ script_of self.old.script) }
         ensures end { self.new.end ≡ self.old.end }
         ensures worn_out { IsErrOf result ScriptFault.WornOut → ⊥ }
-        ensures refused { (held : Option script.Held) → IfErr result (RefusesRelease held) }
+        ensures why { (held : Option script.Held) → IfErr result (RefusesRelease held) }
     {
         match only(self.alloc, Sent::Lost(conn)) {
             Ok(sent) => {
                 self.script.release(number);
-                Ok(Taken {
-                    sent,
-                    is_of_machine: false,
-                    held: None,
-                })
+                Ok(Taken::Answered(sent))
             }
             Err(_) => Err(ScriptFault::NoMemory),
         }
@@ -212,17 +210,17 @@ impl ScriptedEnd {
         text: String,
     ) -> Result<Taken, ScriptFault>
         ensures handed_on { (script_of self.old.script).known ≡ []
-            → IfOk result (λ t. (i : Input) × IsHeardAs (steps.Text conn.value (string_bytes text)) i × (t.is_of_machine ≡ true) × (t.held ≡ None)
-            × ((h : List Input) → StandsFor self.old.end h → (map sent_of t.sent.items ≡ out h i) × StandsFor self.new.end (i ∷ h) × IsShort h)
+            → IfOk result (λ t. (i : Input) × IsHeardAs (steps.Text conn.value (string_bytes text)) i
+            × ((h : List Input) → StandsFor self.old.end h → IsOfMachine (out h i) t × StandsFor self.new.end (i ∷ h) × IsShort h)
             × (script_of self.new.script ≡ without_held number (script_of self.old.script))) }
         ensures named { (h : List Input) → StandsFor self.old.end h → (script_of self.old.script).known ≢ []
-            → IfOk result (λ t. (t.held ≡ None) × (mid : script.Script) × NamesAsked conn.value (string_bytes text) h self.old.end (script_of self.old.script) self.new.end mid t
+            → IfOk result (λ t. (mid : script.Script) × NamesAsked conn.value (string_bytes text) h self.old.end (script_of self.old.script) self.new.end mid t
             × (script_of self.new.script ≡ without_held number mid)) }
         ensures released { OnOk result (OnlySubscriptionsChange (without_held number (script_of self.old.script)) (script_of self.new.script)) }
         ensures err { OnErr result ((script_of self.new.script ≡ script_of self.old.script)
             × ((h : List Input) → StandsFor self.old.end h → StandsFor self.new.end h)) }
         ensures worn_out { (h : List Input) → StandsFor self.old.end h → IsErrOf result ScriptFault.WornOut → most_steps ≤ length h }
-        ensures refused { (held : Option script.Held) → IfErr result (RefusesRelease held) }
+        ensures why { (held : script.Held) → held.is_lost ≡ false → IfErr result (RefusesRelease (Some held)) }
     {
         match self.hear_names(conn, text.as_str()) {
             Ok(taken) => {
@@ -240,8 +238,8 @@ impl ScriptedEnd {
     pub fn release_with(&mut self, number: u64, answer: &str) -> Result<Vec<Sent>, ScriptFault>
         // If no command of this number is held, the call fails.
         ensures not_held { held_by number (script_of self.old.script) ≡ None → result ≡ Err NotHeld }
-        // An error has a reason of the definition: `NotHeld`, or `BadRow` if the text is JSON for no answer, in this order.
-        ensures refused { IfErr result (RefusesAnswer answer.now (held_by number (script_of self.old.script))) }
+        // An error is the first that the definition has: `NotHeld`, `BadRow` with the fault of the text, or `WornOut`.
+        ensures why { IfErr result (RefusesAnswer answer.now (held_by number (script_of self.old.script))) }
         // Otherwise the events before, one reply and the events after are sent; if the connection is gone, the command is lost.
         ensures answered { (h : List Input) (held : script.Held) → StandsFor self.old.end h → held_by number (script_of self.old.script) ≡ Some held
             → IfOk result (λ sent. (a : spec.Answer) × IsAnswer answer.now a × (map sent_of sent.items ≡ release_sent (deeds h) (script_of self.old.script).named held a)) }
@@ -286,8 +284,8 @@ impl ScriptedEnd {
         // After an Ok, the event of this text goes to the sessions that it reaches, in the machine's order, and to no other.
         ensures ok { (h : List Input) → StandsFor self.now.end h
             → IfOk result (λ sent. (e : spec.Event) × IsEventText event.now e × (map sent_of sent.items ≡ emitted (deeds h) (script_of self.now.script).named e)) }
-        // An error has a reason of the definition: `BadRow` comes only if the text is JSON for no event.
-        ensures refused { IfErr result (RefusesEvent event.now) }
+        // An error is the first that the definition has: `BadRow` with the fault of the text, or `WornOut`.
+        ensures why { IfErr result (RefusesEvent event.now) }
         // `WornOut` comes only if the remote end has accepted `most_steps` steps.
         ensures worn_out { (h : List Input) → StandsFor self.now.end h → IsErrOf result ScriptFault.WornOut → most_steps ≤ length h }
     {
@@ -309,8 +307,8 @@ impl ScriptedEnd {
             ≡ with_follower (record { method = method.now; events = ts; bytes = length events.now }) (script_of self.old.script))) }
         // An Ok comes only if there was room for the events.
         ensures room { OnOk result (has_room_for_follower (script_of self.old.script) (length events.now) ≡ true) }
-        // An error has a reason of the definition: `BadRow`, `TooManyRows` or `TooMuchKept`, in this order.
-        ensures refused { IfErr result (RefusesFollower events.now (script_of self.old.script)) }
+        // An error is the first that the definition has: `BadRow` with the fault of the text, `TooManyRows` or `TooMuchKept`.
+        ensures why { IfErr result (RefusesFollower events.now (script_of self.old.script)) }
         // After an error the script is as it was.
         ensures err { OnErr result (script_of self.new.script ≡ script_of self.old.script) }
         // The remote end is unchanged.
@@ -346,7 +344,7 @@ impl ScriptedEnd {
     }
 
     /// What follows something that the remote end sends, on the same connection: the events that a test had follow it. Asked of each thing
-    /// that is sent for a [`Taken`] of the machine, in order; each is sent directly behind the thing.
+    /// that is sent for a [`Taken::HandedOn`], in order; each is sent directly behind the thing.
     ///
     /// Without followers it takes no memory. Otherwise the text is parsed.
     ///
@@ -375,8 +373,8 @@ impl ScriptedEnd {
         ensures named { OnOk result (list_all can_be_known (words names.now) ≡ true) }
         // An Ok comes only if there was room for those that are new.
         ensures room { OnOk result (has_room_for_names (script_of self.old.script) (words names.now) ≡ true) }
-        // An error has a reason of the definition: `BadName` or `TooManyNames`, in this order.
-        ensures refused { IfErr result (RefusesNames names.now (script_of self.old.script)) }
+        // An error is the first that the definition has: `BadName` or `TooManyNames`.
+        ensures why { IfErr result (RefusesNames names.now (script_of self.old.script)) }
         // After an error the script is as it was.
         ensures err { OnErr result (script_of self.new.script ≡ script_of self.old.script) }
         // The remote end is unchanged.
@@ -407,7 +405,7 @@ impl ScriptedEnd {
 fn read_names(alloc: Global, text: &str) -> Result<Vec<String>, ScriptFault>
     ensures ok { IfOk result (λ names. map string_bytes names.items ≡ words text.now) }
     ensures named { OnOk result (list_all can_be_known (words text.now) ≡ true) }
-    ensures refused { (s : script.Script) → IfErr result (RefusesNames text.now s) }
+    ensures why { (s : script.Script) → IfErr result (RefusesNames text.now s) }
 {
     match names_of_line(alloc, text)? {
         Some(names) => Ok(names),

@@ -26,7 +26,7 @@ impl ScriptedEnd {
         ensures plain { (script_of self.old.script).known ≡ [] → IsHandedOn (steps.Text conn.value text.now) self.old.end self.new.end result
             × (self.new.script ≡ self.old.script) }
         ensures named { (h : List Input) → StandsFor self.old.end h → (script_of self.old.script).known ≢ []
-            → IfOk result (λ t. (t.held ≡ None) × IsNamesAsked conn.value text.now h self.old.end (script_of self.old.script) self.new.end (script_of self.new.script) t) }
+            → IfOk result (λ t. IsNamesAsked conn.value text.now h self.old.end (script_of self.old.script) self.new.end (script_of self.new.script) t) }
         ensures rest { OnOk result (OnlySubscriptionsChange (script_of self.old.script) (script_of self.new.script)) }
         ensures worn_out { (h : List Input) → StandsFor self.old.end h → IsErrOf result RemoteFault.WornOut → most_steps ≤ length h }
         ensures err { OnErr result ((script_of self.new.script ≡ script_of self.old.script)
@@ -41,7 +41,7 @@ impl ScriptedEnd {
     // Takes a message while names are known.
     fn hear_known(&mut self, conn: JsUint, text: &str) -> Result<Taken, RemoteFault>
         ensures named { (h : List Input) → StandsFor self.old.end h
-            → IfOk result (λ t. (t.held ≡ None) × IsNamesAsked conn.value text.now h self.old.end (script_of self.old.script) self.new.end (script_of self.new.script) t) }
+            → IfOk result (λ t. IsNamesAsked conn.value text.now h self.old.end (script_of self.old.script) self.new.end (script_of self.new.script) t) }
         ensures rest { OnOk result (OnlySubscriptionsChange (script_of self.old.script) (script_of self.new.script)) }
         ensures worn_out { (h : List Input) → StandsFor self.old.end h → IsErrOf result RemoteFault.WornOut → most_steps ≤ length h }
         ensures err { OnErr result ((script_of self.new.script ≡ script_of self.old.script)
@@ -56,7 +56,7 @@ impl ScriptedEnd {
     // Takes a message of a session while names are known.
     fn hear_session(&mut self, conn: JsUint, session: u32, text: &str) -> Result<Taken, RemoteFault>
         ensures named { (h : List Input) → StandsFor self.old.end h
-            → IfOk result (λ t. (t.held ≡ None) × IsNamed conn.value text.now h (Some session) self.old.end (script_of self.old.script) self.new.end (script_of self.new.script) t) }
+            → IfOk result (λ t. IsNamed conn.value text.now h (Some session) self.old.end (script_of self.old.script) self.new.end (script_of self.new.script) t) }
         ensures rest { OnOk result (OnlySubscriptionsChange (script_of self.old.script) (script_of self.new.script)) }
         ensures worn_out { (h : List Input) → StandsFor self.old.end h → IsErrOf result RemoteFault.WornOut → most_steps ≤ length h }
         ensures err { OnErr result ((script_of self.new.script ≡ script_of self.old.script)
@@ -77,7 +77,7 @@ impl ScriptedEnd {
         asked: Option<NamesAsked>,
     ) -> Result<Taken, RemoteFault>
         ensures takes { (h : List Input) → StandsFor self.old.end h → (let asks = option_map asked_seen asked in
-            IfOk result (λ t. (t.held ≡ None) × Takes conn.value h session asks self.old.end (script_of self.old.script) self.new.end (script_of self.new.script) t
+            IfOk result (λ t. Takes conn.value h session asks self.old.end (script_of self.old.script) self.new.end (script_of self.new.script) t
             (taking (deeds h) (script_of self.old.script) session text.now asks))) }
         ensures rest { OnOk result (OnlySubscriptionsChange (script_of self.old.script) (script_of self.new.script)) }
         ensures worn_out { (h : List Input) → StandsFor self.old.end h → IsErrOf result RemoteFault.WornOut → most_steps ≤ length h }

@@ -1,5 +1,5 @@
 //! The scripted end, with its public calls.
-ghost use Rattle.std.specs.Prelude.{◌≡◌, ◌<◌, ◌≤◌, [], ◌∷◌, List, ℕ, length, map, find, true, false, Some, None, IfOk, OnOk, OnErr, IsErrOf, option_map, string_bytes, vec_len};
+ghost use Rattle.std.specs.Prelude.{◌≡◌, ◌<◌, ◌≤◌, [], ◌∷◌, List, length, map, find, true, Some, None, IfOk, OnOk, OnErr, IsErrOf, option_map, string_bytes, vec_len};
 ghost use Rattle.std.specs.List.{position};
 ghost use Rattle.bidi_params.specs.declared.error_code.ErrorCode.TheVariants.{UnknownError};
 ghost use Rattle.bidi_messages.specs.Message.{error_text};
@@ -9,16 +9,17 @@ ghost use Rattle.bidi_rows.specs.Command.{Command};
 ghost use Rattle.bidi_rows.specs.Rows as row;
 ghost use Rattle.bidi_rows.specs.Rows.{Holds, matches};
 ghost use Rattle.bidi_rows.specs.View.{row_of};
-ghost use Rattle.bidi_remote.specs.Machine.History.{Input, IsHeardAs};
+ghost use Rattle.bidi_remote.specs.Machine.History.{Input};
 ghost use Rattle.bidi_remote.specs.Machine.Outcome.{deeds};
-ghost use Rattle.bidi_remote.specs.Machine.Sent.{out, Text};
+ghost use Rattle.bidi_remote.specs.Machine.Sent.{Text};
 ghost use Rattle.bidi_remote.specs.State.Stands.{StandsFor};
 ghost use Rattle.bidi_sessions.specs.Step as steps;
-ghost use Rattle.bidi_scripted.specs.Script.{no_script, is_plain, with_use, with_held};
+ghost use Rattle.bidi_scripted.specs.Script.{no_script, is_plain};
 ghost use Rattle.bidi_scripted.specs.Fate.{fate, is_json, by_row, by_action, after_step};
 ghost use Rattle.bidi_remote.specs.Machine.Connections.{is_open};
 ghost use Rattle.bidi_scripted.specs.Becomes.{Becomes, IsFound, IsHandedOn, IsTaken, sent_by};
 ghost use Rattle.bidi_scripted.specs.Sending.{answer_sent};
+ghost use Rattle.bidi_scripted.specs.Taken.{IsOfTest, handed};
 ghost use Rattle.bidi_scripted.specs.View.{script_of};
 
 use crate::emitting::answer_sent;
@@ -33,13 +34,14 @@ use std::alloc::{AllocError, Global};
 
 /// What became of a step.
 #[derive(Drop)]
-pub struct Taken {
-    /// What is sent for it, in order, on any connection, and what is reported.
-    pub sent: Vec<Sent>,
-    /// Whether that is what the remote end sends. Then [`ScriptedEnd::followers_of`] says what follows each thing.
-    pub is_of_machine: bool,
-    /// The number that the command got, if it is held.
-    pub held: Option<u64>,
+pub enum Taken {
+    /// It was handed on to the remote end, which sends this, in order, on any connection. [`ScriptedEnd::followers_of`] says what follows each
+    /// thing.
+    HandedOn(Vec<Sent>),
+    /// This is sent in place of what the remote end would send.
+    Answered(Vec<Sent>),
+    /// It is a command that is held, and it got this number.
+    Held(u64),
 }
 
 /// A remote end, with the rows of a test and the commands that are held.
@@ -95,20 +97,18 @@ impl ScriptedEnd {
     /// 1. `NoMemory`: an allocation failed.
     /// 2. `WornOut`: 1,000,000,000 steps were accepted, and the step is handed on or sends events.
     pub fn step(&mut self, step: Step) -> Result<Taken, RemoteFault>
-        // With an empty script each step is handed on as it came: what the machine sends is sent, and `WornOut` comes as it does there.
-        ensures plain { script_of self.old.script ≡ no_script → IsHandedOn (step_of step) self.old.end self.new.end result }
-        // An empty script stays empty.
-        ensures stays_plain { script_of self.old.script ≡ no_script → script_of self.new.script ≡ no_script }
-        // What comes of it is what its fate means: it is handed on, a row answers or holds it, or it asks for names.
-        ensures becomes { (h : List Input) → StandsFor self.old.end h → IfOk result (λ t. Becomes (fate (deeds h) (script_of self.old.script) (step_of step))
-            h (step_of step) self.old.end (script_of self.old.script) self.new.end (script_of self.new.script) t) }
-        // After an error the script is as it was, and the remote end stands for the histories that it stood for before.
-        ensures err { OnErr result ((script_of self.new.script ≡ script_of self.old.script)
-            × ((h : List Input) → StandsFor self.old.end h → StandsFor self.new.end h)) }
-        // `WornOut` comes only if the remote end has accepted `most_steps` steps.
-        ensures worn_out { (h : List Input) → StandsFor self.old.end h → IsErrOf result RemoteFault.WornOut → most_steps ≤ length h }
+        // Over an empty script the step is handed on as it came, and the script stays empty; over any script, what comes of the step is what its
+        // fate means; and after an error nothing has changed.
+        ensures { IsTaken (step_of step) self.old.end (script_of self.old.script) self.new.end (script_of self.new.script) result }
     {
-        self.take(step)
+        match step {
+            Step::Text(conn, text) => self.hear(conn, text.as_str()),
+            Step::Open(conn, resource) => self.open(conn, resource),
+            Step::At(moment) => self.hand_on(Step::At(moment)),
+            Step::Drop(conn) => self.hand_on(Step::Drop(conn)),
+            Step::NotText(conn) => self.hand_on(Step::NotText(conn)),
+            Step::Page(page) => self.hand_on(Step::Page(page)),
+        }
     }
 
     /// Takes a message that came in on a connection. The message is lent, and it is copied only if it is held.
@@ -120,33 +120,21 @@ impl ScriptedEnd {
     /// 1. `NoMemory`: an allocation failed.
     /// 2. `WornOut`: 1,000,000,000 steps were accepted, and the message is handed on or sends events.
     pub fn hear(&mut self, conn: JsUint, text: &str) -> Result<Taken, RemoteFault>
-        // With an empty script the message is handed on as it came: what the machine sends is sent, and `WornOut` comes as it does there.
-        ensures plain { script_of self.old.script ≡ no_script → IsHandedOn (steps.Text conn.value text.now) self.old.end self.new.end result }
-        // An empty script stays empty.
-        ensures stays_plain { script_of self.old.script ≡ no_script → script_of self.new.script ≡ no_script }
-        // What comes of it is what its fate means: it is handed on, a row answers or holds it, or it asks for names.
-        ensures becomes { (h : List Input) → StandsFor self.old.end h → IfOk result (λ t. Becomes (fate (deeds h) (script_of self.old.script) (steps.Text conn.value text.now))
-            h (steps.Text conn.value text.now) self.old.end (script_of self.old.script) self.new.end (script_of self.new.script) t) }
-        // After an error the script is as it was, and the remote end stands for the histories that it stood for before.
-        ensures err { OnErr result ((script_of self.new.script ≡ script_of self.old.script)
-            × ((h : List Input) → StandsFor self.old.end h → StandsFor self.new.end h)) }
-        // `WornOut` comes only if the remote end has accepted `most_steps` steps.
-        ensures worn_out { (h : List Input) → StandsFor self.old.end h → IsErrOf result RemoteFault.WornOut → most_steps ≤ length h }
+        // Over an empty script the message is handed on as it came, and the script stays empty; over any script, what comes of the message is what
+        // its fate means; and after an error nothing has changed.
+        ensures { IsTaken (steps.Text conn.value text.now) self.old.end (script_of self.old.script) self.new.end (script_of self.new.script) result }
     {
-        self.take_text(conn, text)
-    }
-
-    // Takes one step.
-    fn take(&mut self, step: Step) -> Result<Taken, RemoteFault>
-        ensures { IsTaken (step_of step) self.old.end (script_of self.old.script) self.new.end (script_of self.new.script) result }
-    {
-        match step {
-            Step::Text(conn, text) => self.take_text(conn, text.as_str()),
-            Step::Open(conn, resource) => self.open(conn, resource),
-            Step::At(moment) => self.hand_on(Step::At(moment)),
-            Step::Drop(conn) => self.hand_on(Step::Drop(conn)),
-            Step::NotText(conn) => self.hand_on(Step::NotText(conn)),
-            Step::Page(page) => self.hand_on(Step::Page(page)),
+        if self.script.is_plain() {
+            return self.hand_on_text(conn, text);
+        }
+        if !self.end.is_open(conn) {
+            return self.hand_on_text(conn, text);
+        }
+        let scratch = self.scratch.as_mut();
+        match look(self.alloc, &mut self.end, &self.script, conn, text, scratch) {
+            Ok(Looked::Found(found)) => self.take_found(conn, text, found),
+            Ok(Looked::Heard(sent)) => Ok(Taken::HandedOn(sent)),
+            Err(fault) => Err(fault),
         }
     }
 
@@ -156,11 +144,7 @@ impl ScriptedEnd {
         ensures script { self.new.script ≡ self.old.script }
     {
         match self.end.step(step) {
-            Ok(sent) => Ok(Taken {
-                sent,
-                is_of_machine: true,
-                held: None,
-            }),
+            Ok(sent) => Ok(Taken::HandedOn(sent)),
             Err(fault) => Err(fault),
         }
     }
@@ -183,41 +167,23 @@ impl ScriptedEnd {
         }
     }
 
-    // Takes a message of a connection.
-    fn take_text(&mut self, conn: JsUint, text: &str) -> Result<Taken, RemoteFault>
-        ensures { IsTaken (steps.Text conn.value text.now) self.old.end (script_of self.old.script) self.new.end (script_of self.new.script) result }
-    {
-        if self.script.is_plain() {
-            return self.hand_on_text(conn, text);
-        }
-        if !self.end.is_open(conn) {
-            return self.hand_on_text(conn, text);
-        }
-        let scratch = self.scratch.as_mut();
-        match look(self.alloc, &mut self.end, &self.script, conn, text, scratch) {
-            Ok(Looked::Found(found)) => self.take_found(conn, text, found),
-            Ok(Looked::Heard(sent)) => Ok(Taken {
-                sent,
-                is_of_machine: true,
-                held: None,
-            }),
-            Err(fault) => Err(fault),
-        }
-    }
-
     /// Hands a message on to the remote end.
     pub(crate) fn hand_on_text(&mut self, conn: JsUint, text: &str) -> Result<Taken, RemoteFault>
         ensures handed_on { IsHandedOn (steps.Text conn.value text.now) self.old.end self.new.end result }
         ensures script { self.new.script ≡ self.old.script }
     {
-        match self.end.hear(conn, text) {
-            Ok(sent) => Ok(Taken {
-                sent,
-                is_of_machine: true,
-                held: None,
-            }),
+        match self.pass_on(conn, text) {
+            Ok(sent) => Ok(Taken::HandedOn(sent)),
             Err(fault) => Err(fault),
         }
+    }
+
+    /// Hands a message on to the remote end, and gives what it sends.
+    pub(crate) fn pass_on(&mut self, conn: JsUint, text: &str) -> Result<Vec<Sent>, RemoteFault>
+        ensures handed_on { IsHandedOn (steps.Text conn.value text.now) self.old.end self.new.end (handed result) }
+        ensures script { self.new.script ≡ self.old.script }
+    {
+        self.end.hear(conn, text)
     }
 
     // Takes a message on an open connection, for which this was found.
@@ -251,11 +217,7 @@ impl ScriptedEnd {
         match self.answered(conn, found) {
             Ok(Some(sent)) => {
                 self.script.use_row(found.place);
-                Ok(Taken {
-                    sent,
-                    is_of_machine: false,
-                    held: None,
-                })
+                Ok(Taken::Answered(sent))
             }
             Ok(None) => self.hold_command(conn, found, text),
             Err(fault) => Err(fault),
@@ -321,11 +283,7 @@ impl ScriptedEnd {
         self.script.reserve_held()?;
         self.script.use_row(found.place);
         let number = self.script.hold(conn, found.id, text);
-        Ok(Taken {
-            sent: Vec::new(self.alloc),
-            is_of_machine: false,
-            held: Some(number),
-        })
+        Ok(Taken::Held(number))
     }
 
     /// Answers a command by an error of this code.
@@ -335,14 +293,11 @@ impl ScriptedEnd {
         id: JsUint,
         code: ErrorCode,
     ) -> Result<Taken, AllocError>
-        ensures { IfOk result (λ t. (map sent_of t.sent.items ≡ Text conn.value (error_text (Some id.value) code) ∷ []) × (t.held ≡ None) × (t.is_of_machine ≡ false)) }
+        ensures { IfOk result (IsOfTest (Text conn.value (error_text (Some id.value) code) ∷ [])) }
     {
         let refusal = error_text(self.alloc, Some(id), code)?;
-        Ok(Taken {
-            sent: only(self.alloc, Sent::Text(conn, SentText::Own(refusal)))?,
-            is_of_machine: false,
-            held: None,
-        })
+        let refusal = Sent::Text(conn, SentText::Own(refusal));
+        Ok(Taken::Answered(only(self.alloc, refusal)?))
     }
 
     /// Whether the connection of this number is open. Takes no memory.

@@ -37,7 +37,7 @@ impl ScriptedEnd {
         wanted: NamesWanted,
     ) -> Result<Taken, RemoteFault>
         ensures takes { (h : List Input) → StandsFor self.old.end h → (let w = wanted_of wanted in
-            IfOk result (λ t. (t.held ≡ None) × Takes conn.value h session (Some (Subscribes w)) self.old.end (script_of self.old.script) self.new.end (script_of self.new.script) t
+            IfOk result (λ t. Takes conn.value h session (Some (Subscribes w)) self.old.end (script_of self.old.script) self.new.end (script_of self.new.script) t
             (subscribing (deeds h) (script_of self.old.script) session text.now w (scope_wanted (deeds h) w)))) }
         ensures rest { OnOk result (OnlySubscriptionsChange (script_of self.old.script) (script_of self.new.script)) }
         ensures worn_out { (h : List Input) → StandsFor self.old.end h → IsErrOf result RemoteFault.WornOut → most_steps ≤ length h }
@@ -71,7 +71,7 @@ impl ScriptedEnd {
         scope: Scope,
     ) -> Result<Taken, RemoteFault>
         ensures takes { (h : List Input) → StandsFor self.old.end h → (let w = wanted_of wanted in scope_wanted (deeds h) w ≡ Ok (scope_of scope)
-            → IfOk result (λ t. (t.held ≡ None) × Takes conn.value h session (Some (Subscribes w)) self.old.end (script_of self.old.script) self.new.end (script_of self.new.script) t
+            → IfOk result (λ t. Takes conn.value h session (Some (Subscribes w)) self.old.end (script_of self.old.script) self.new.end (script_of self.new.script) t
             (subscribing (deeds h) (script_of self.old.script) session text.now w (Ok (scope_of scope))))) }
         ensures rest { OnOk result (OnlySubscriptionsChange (script_of self.old.script) (script_of self.new.script)) }
         ensures worn_out { (h : List Input) → StandsFor self.old.end h → IsErrOf result RemoteFault.WornOut → most_steps ≤ length h }
@@ -112,7 +112,7 @@ impl ScriptedEnd {
         requires { self.now.script.made ≤ most_numbers }
         ensures takes { (h : List Input) → StandsFor self.old.end h → (let w = wanted_of wanted in scope_wanted (deeds h) w ≡ Ok (scope_of scope)
             → has_room (deeds h) (script_of self.old.script) session (length w.foreign) ≡ true
-            → IfOk result (λ t. (t.held ≡ None) × Takes conn.value h session (Some (Subscribes w)) self.old.end (script_of self.old.script) self.new.end (script_of self.new.script) t
+            → IfOk result (λ t. Takes conn.value h session (Some (Subscribes w)) self.old.end (script_of self.old.script) self.new.end (script_of self.new.script) t
             (subscribing (deeds h) (script_of self.old.script) session text.now w (Ok (scope_of scope))))) }
         ensures rest { OnOk result (OnlySubscriptionsChange (script_of self.old.script) (script_of self.new.script)) }
         ensures worn_out { (h : List Input) → StandsFor self.old.end h → IsErrOf result RemoteFault.WornOut → most_steps ≤ length h }
@@ -135,7 +135,7 @@ impl ScriptedEnd {
     ) -> Result<Taken, RemoteFault>
         requires { self.now.script.made ≤ most_numbers }
         ensures takes { (h : List Input) → StandsFor self.old.end h → (let w = wanted_of wanted in
-            IfOk result (λ t. (t.held ≡ None) × Takes conn.value h session (Some (Subscribes w)) self.old.end (script_of self.old.script) self.new.end (script_of self.new.script) t (Makes w (scope_of scope)))) }
+            IfOk result (λ t. Takes conn.value h session (Some (Subscribes w)) self.old.end (script_of self.old.script) self.new.end (script_of self.new.script) t (Makes w (scope_of scope)))) }
         ensures rest { OnOk result (OnlySubscriptionsChange (script_of self.old.script) (script_of self.new.script)) }
         ensures worn_out { (h : List Input) → StandsFor self.old.end h → IsErrOf result RemoteFault.WornOut → most_steps ≤ length h }
         ensures err { OnErr result ((script_of self.new.script ≡ script_of self.old.script)
@@ -176,7 +176,7 @@ impl ScriptedEnd {
         scope: Scope,
     ) -> Result<Taken, RemoteFault>
         ensures takes { (h : List Input) → StandsFor self.old.end h → (let w = wanted_of wanted in scope_wanted (deeds h) w ≡ Ok (scope_of scope)
-            → IfOk result (λ t. (t.held ≡ None) × Takes conn.value h session (Some (Subscribes w)) self.old.end (script_of self.old.script) self.new.end (script_of self.new.script) t (Hears (part_or w.part text.now)))) }
+            → IfOk result (λ t. Takes conn.value h session (Some (Subscribes w)) self.old.end (script_of self.old.script) self.new.end (script_of self.new.script) t (Hears (part_or w.part text.now)))) }
         ensures rest { OnOk result (OnlySubscriptionsChange (script_of self.old.script) (script_of self.new.script)) }
         ensures worn_out { (h : List Input) → StandsFor self.old.end h → IsErrOf result RemoteFault.WornOut → most_steps ≤ length h }
         ensures err { OnErr result ((script_of self.new.script ≡ script_of self.old.script)
@@ -193,9 +193,9 @@ impl ScriptedEnd {
             contexts: _,
             users: _,
         } = wanted;
-        match self.hand_on_text(conn, part_or(&part, text)) {
-            Ok(taken) => {
-                if let Some(number) = number_made(&taken.sent, session) {
+        match self.pass_on(conn, part_or(&part, text)) {
+            Ok(sent) => {
+                if let Some(number) = number_made(&sent, session) {
                     let named = NamedSubscription {
                         session,
                         number,
@@ -205,7 +205,7 @@ impl ScriptedEnd {
                     };
                     self.script.add_named(named, &active);
                 }
-                Ok(taken)
+                Ok(Taken::HandedOn(sent))
             }
             Err(fault) => Err(fault),
         }

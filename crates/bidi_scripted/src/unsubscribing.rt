@@ -1,5 +1,5 @@
 //! How sessions unsubscribe from names of a test, beside the remote end.
-ghost use Rattle.std.specs.Prelude.{◌≡◌, ◌≤◌, ℕ, List, Some, None, length, IfOk, OnOk, OnErr, IsErrOf};
+ghost use Rattle.std.specs.Prelude.{◌≡◌, ◌≤◌, ℕ, List, Some, length, IfOk, OnOk, OnErr, IsErrOf};
 ghost use Rattle.bidi_remote.specs.Machine.History.{Input};
 ghost use Rattle.bidi_remote.specs.Machine.Outcome.{deeds};
 ghost use Rattle.bidi_remote.specs.State.Stands.{StandsFor};
@@ -35,7 +35,7 @@ impl ScriptedEnd {
         wanted: NamesWanted,
     ) -> Result<Taken, RemoteFault>
         ensures takes { (h : List Input) → StandsFor self.old.end h → (let w = wanted_of wanted in
-            IfOk result (λ t. (t.held ≡ None) × Takes conn.value h session (Some (Unsubscribes w)) self.old.end (script_of self.old.script) self.new.end (script_of self.new.script) t
+            IfOk result (λ t. Takes conn.value h session (Some (Unsubscribes w)) self.old.end (script_of self.old.script) self.new.end (script_of self.new.script) t
             (unsubscribing (script_of self.old.script) session text.now w))) }
         ensures rest { OnOk result (OnlySubscriptionsChange (script_of self.old.script) (script_of self.new.script)) }
         ensures worn_out { (h : List Input) → StandsFor self.old.end h → IsErrOf result RemoteFault.WornOut → most_steps ≤ length h }
@@ -59,7 +59,7 @@ impl ScriptedEnd {
         wanted: NamesWanted,
     ) -> Result<Taken, RemoteFault>
         ensures takes { (h : List Input) → StandsFor self.old.end h → (let w = wanted_of wanted in
-            IfOk result (λ t. (t.held ≡ None) × Takes conn.value h session (Some (Unsubscribes w)) self.old.end (script_of self.old.script) self.new.end (script_of self.new.script) t (Succeeds w.id))) }
+            IfOk result (λ t. Takes conn.value h session (Some (Unsubscribes w)) self.old.end (script_of self.old.script) self.new.end (script_of self.new.script) t (Succeeds w.id))) }
         ensures rest { OnOk result (OnlySubscriptionsChange (script_of self.old.script) (script_of self.new.script)) }
         ensures worn_out { (h : List Input) → StandsFor self.old.end h → IsErrOf result RemoteFault.WornOut → most_steps ≤ length h }
         ensures err { OnErr result ((script_of self.new.script ≡ script_of self.old.script)
@@ -80,19 +80,19 @@ impl ScriptedEnd {
         wanted: NamesWanted,
     ) -> Result<Taken, RemoteFault>
         ensures takes { (h : List Input) → StandsFor self.old.end h → (let w = wanted_of wanted in
-            IfOk result (λ t. (t.held ≡ None) × Takes conn.value h session (Some (Unsubscribes w)) self.old.end (script_of self.old.script) self.new.end (script_of self.new.script) t (Hears (part_or w.part text.now)))) }
+            IfOk result (λ t. Takes conn.value h session (Some (Unsubscribes w)) self.old.end (script_of self.old.script) self.new.end (script_of self.new.script) t (Hears (part_or w.part text.now)))) }
         ensures rest { OnOk result (OnlySubscriptionsChange (script_of self.old.script) (script_of self.new.script)) }
         ensures worn_out { (h : List Input) → StandsFor self.old.end h → IsErrOf result RemoteFault.WornOut → most_steps ≤ length h }
         ensures err { OnErr result ((script_of self.new.script ≡ script_of self.old.script)
             × ((h : List Input) → StandsFor self.old.end h → StandsFor self.new.end h)) }
     {
-        match self.hand_on_text(conn, part_or(&wanted.part, text)) {
-            Ok(taken) => {
-                if is_success(&taken.sent) {
+        match self.pass_on(conn, part_or(&wanted.part, text)) {
+            Ok(sent) => {
+                if is_success(&sent) {
                     self.script
                         .dismiss_named(session, &wanted.foreign, &wanted.modules);
                 }
-                Ok(taken)
+                Ok(Taken::HandedOn(sent))
             }
             Err(fault) => Err(fault),
         }
@@ -107,7 +107,7 @@ impl ScriptedEnd {
         wanted: IdsWanted,
     ) -> Result<Taken, RemoteFault>
         ensures takes { (h : List Input) → StandsFor self.old.end h → (let ids = texts_of wanted.ids.items in
-            IfOk result (λ t. (t.held ≡ None) × Takes conn.value h session (Some (Ends wanted.id.value ids)) self.old.end (script_of self.old.script) self.new.end (script_of self.new.script) t
+            IfOk result (λ t. Takes conn.value h session (Some (Ends wanted.id.value ids)) self.old.end (script_of self.old.script) self.new.end (script_of self.new.script) t
             (ending text.now wanted.id.value ids (other_ids (alone (deeds h) session (script_of self.old.script).named) session ids)))) }
         ensures rest { OnOk result (OnlySubscriptionsChange (script_of self.old.script) (script_of self.new.script)) }
         ensures worn_out { (h : List Input) → StandsFor self.old.end h → IsErrOf result RemoteFault.WornOut → most_steps ≤ length h }
@@ -145,7 +145,7 @@ impl ScriptedEnd {
         numbers: &[u64],
     ) -> Result<Taken, RemoteFault>
         ensures takes { (h : List Input) (ids : List (List ℕ)) → StandsFor self.old.end h → AreNumbers (id_text Subscription session) ids numbers.now
-            → IfOk result (λ t. (t.held ≡ None) × Takes conn.value h session (Some (Ends id.value ids)) self.old.end (script_of self.old.script) self.new.end (script_of self.new.script) t (Succeeds id.value)) }
+            → IfOk result (λ t. Takes conn.value h session (Some (Ends id.value ids)) self.old.end (script_of self.old.script) self.new.end (script_of self.new.script) t (Succeeds id.value)) }
         ensures rest { OnOk result (OnlySubscriptionsChange (script_of self.old.script) (script_of self.new.script)) }
         ensures worn_out { (h : List Input) → StandsFor self.old.end h → IsErrOf result RemoteFault.WornOut → most_steps ≤ length h }
         ensures err { OnErr result ((script_of self.new.script ≡ script_of self.old.script)
@@ -165,18 +165,18 @@ impl ScriptedEnd {
         numbers: &[u64],
     ) -> Result<Taken, RemoteFault>
         ensures takes { (h : List Input) (id : ℕ) (ids : List (List ℕ)) → StandsFor self.old.end h → AreNumbers (id_text Subscription session) ids numbers.now
-            → IfOk result (λ t. (t.held ≡ None) × Takes conn.value h session (Some (Ends id ids)) self.old.end (script_of self.old.script) self.new.end (script_of self.new.script) t (Hears text.now)) }
+            → IfOk result (λ t. Takes conn.value h session (Some (Ends id ids)) self.old.end (script_of self.old.script) self.new.end (script_of self.new.script) t (Hears text.now)) }
         ensures rest { OnOk result (OnlySubscriptionsChange (script_of self.old.script) (script_of self.new.script)) }
         ensures worn_out { (h : List Input) → StandsFor self.old.end h → IsErrOf result RemoteFault.WornOut → most_steps ≤ length h }
         ensures err { OnErr result ((script_of self.new.script ≡ script_of self.old.script)
             × ((h : List Input) → StandsFor self.old.end h → StandsFor self.new.end h)) }
     {
-        match self.hand_on_text(conn, text) {
-            Ok(taken) => {
-                if is_success(&taken.sent) {
+        match self.pass_on(conn, text) {
+            Ok(sent) => {
+                if is_success(&sent) {
                     self.script.cancel_named(session, numbers);
                 }
-                Ok(taken)
+                Ok(Taken::HandedOn(sent))
             }
             Err(fault) => Err(fault),
         }

@@ -459,10 +459,7 @@ pub(crate) fn found_by(alloc: Global, end: &mut ScriptedEnd, line: &str) -> Resu
 fn stepped(alloc: Global, end: &mut ScriptedEnd, line: &str) -> Result<String, Fail> {
     let step = read_step_text(alloc, line)?.ok_or("a play line")?;
     let taken = end.step(step)?;
-    match taken.held {
-        Some(number) => Ok(format!(in alloc; "held {number}")?),
-        None => told(alloc, end, taken),
-    }
+    told(alloc, end, taken)
 }
 
 /// What a call of a test did.
@@ -481,16 +478,13 @@ fn sent_by(alloc: Global, sent: Result<Vec<Sent>, ScriptFault>) -> Result<String
     }
 }
 
-/// What is sent for a step, with what follows.
+/// What came of a step: what is sent for it, with what follows, or the number of a command that is held.
 fn told(alloc: Global, end: &ScriptedEnd, taken: Taken) -> Result<String, Fail> {
-    let Taken {
-        sent,
-        is_of_machine,
-        held: _,
-    } = taken;
-    if !is_of_machine {
-        return lines_of(alloc, sent);
-    }
+    let sent = match taken {
+        Taken::HandedOn(sent) => sent,
+        Taken::Answered(sent) => return lines_of(alloc, sent),
+        Taken::Held(number) => return Ok(format!(in alloc; "held {number}")?),
+    };
     let mut all = Vec::new(alloc);
     for one in sent {
         let mut more = end.followers_of(&one)?;

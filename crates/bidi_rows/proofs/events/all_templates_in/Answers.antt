@@ -1,7 +1,7 @@
-use Rattle.std.proofs.Common.{◌≡◌, ◌∙◌, ◌<◌, ◌≤◌, ◌++◌, ◌+◌, length, drop, get_or, [], ◌∷◌, append_assoc, append-nil, map, inl, inr, sym, ap, subst}
+use Rattle.std.proofs.Common.{◌≡◌, ◌∙◌, ◌<◌, ◌≤◌, ◌++◌, length, get_or, [], ◌∷◌, append_assoc, append-nil, map, inl, inr, sym, ap, subst}
 use Rattle.std.proofs.lemmas.List.{map-append, drop_all}
 use Rattle.json.specs.Tree.{ItemsHaveNumbers}
-use Rattle.json.specs.Value.{value_view, items_view}
+use Rattle.json.specs.Value.{items_view}
 use Rattle.bidi_rows.specs.Filling.{Template, template_of}
 use Rattle.bidi_rows.specs.Templates.{AreTemplates}
 use Rattle.bidi_rows.proofs.ReadingLemmas.{from-item}

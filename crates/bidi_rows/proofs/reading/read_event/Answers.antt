@@ -1,6 +1,4 @@
-use Rattle.std.proofs.Common.{◌∙◌, inl, inr, sym}
 use Rattle.json.specs.Value.{value_view}
-use Rattle.bidi_rows.specs.Reading.{answer_names, hold_names, row_names}
 use Rattle.bidi_rows.specs.Refusals.{RefusesEvent}
 use Rattle.bidi_rows.proofs.RefusalLemmas.{handed_on, kept_on, no-value, none-then, no-event-text, event-text}
 use Rattle.bidi_rows.proofs.reading.read_event.Goals as goal

@@ -1,6 +1,6 @@
 use Rattle.std.proofs.Common.{◌∙◌, inl, inr, refl, sym}
 use Rattle.json.specs.Value.{value_view}
-use Rattle.bidi_rows.specs.Reading.{answer_names, hold_names, row_names}
+use Rattle.bidi_rows.specs.Reading.{row_names}
 use Rattle.bidi_rows.specs.Refusals.{RefusesAnswering, RefusesNames}
 use Rattle.bidi_rows.proofs.RefusalLemmas.{handed_on, kept_on, no-value, none-then, no-row-text, row-text}
 use Rattle.bidi_rows.specs.declared.fault.RowFault.TheVariants.{Unexpected}

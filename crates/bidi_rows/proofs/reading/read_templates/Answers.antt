@@ -1,6 +1,4 @@
-use Rattle.std.proofs.Common.{◌∙◌, inl, inr, sym}
 use Rattle.json.specs.Value.{value_view}
-use Rattle.bidi_rows.specs.Reading.{answer_names, hold_names, row_names}
 use Rattle.bidi_rows.specs.Refusals.{RefusesArray}
 use Rattle.bidi_rows.proofs.RefusalLemmas.{handed_on, kept_on, no-value, none-then, no-template-text, array-text}
 use Rattle.std.specs.Prelude.{map}

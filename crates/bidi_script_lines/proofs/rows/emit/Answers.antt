@@ -19,5 +19,5 @@ pub returns-in-Err-clause-brings : goal.returns-in-Err-clause-brings
 returns-in-Err-clause-brings c = λ h s.
     let end = c.args.end.now in
     no-effect (λ o. (e : Event) × IsEventText c.args.event.now e × (o ≡ OfTest (emitted (deeds h) (script_of end.script).named e)) × IsUnchanged end end) _
-    (RefusesEvent c.args.event.now) c.in-Err.fault end end c.refused.result c.refused.ensures.ok c.refused.ensures.has_reason c.in-Err.ensures.refused
+    (RefusesEvent c.args.event.now) c.in-Err.fault end end c.refused.result c.refused.ensures.ok c.refused.ensures.has_reason c.in-Err.ensures.why
     (no-event c.args.event.now) (refl, refl)

@@ -1,6 +1,8 @@
 use Rattle.std.proofs.Common.{inl, ap, map, length}
 use Rattle.bidi_sessions.specs.View.{sent_of}
 use Rattle.bidi_rows.specs.Reading.{IsHoldingRow}
+use Rattle.bidi_rows.specs.Refusals as texts
+use Rattle.bidi_rows.proofs.RefusalLemmas.{no-hold-text}
 use Rattle.bidi_scripted.specs.Faults.{RefusesRow}
 use Rattle.bidi_scripted.specs.View.{script_of}
 use Rattle.bidi_script_lines.specs.Outcomes.{OfTest}
@@ -16,8 +18,9 @@ returns-in-Ok-clause-brings c = λ h.
 
 pub returns-in-Err-clause-brings : goal.returns-in-Err-clause-brings
 returns-in-Err-clause-brings c = λ h.
+    let why = texts.RefusesHolding c.args.row.now in
     let row = IsHoldingRow c.args.row.now in
     let bytes = length c.args.row.now in
     let script = script_of c.args.end.now.script in
-    no-effect (AddsRow row bytes c.args.end.now c.hold.new.self) _ (RefusesRow row script bytes) c.in-Err.fault c.args.end.now c.hold.new.self c.refused.result
-    c.refused.ensures.ok c.refused.ensures.has_reason c.in-Err.ensures.refused (no-row row script bytes) (c.in-Err.ensures.end, c.in-Err.ensures.err)
+    no-effect (AddsRow row bytes c.args.end.now c.hold.new.self) _ (RefusesRow why row script bytes) c.in-Err.fault c.args.end.now c.hold.new.self c.refused.result
+    c.refused.ensures.ok c.refused.ensures.has_reason c.in-Err.ensures.why (no-row why row (no-hold-text c.args.row.now) script bytes) (c.in-Err.ensures.end, c.in-Err.ensures.err)

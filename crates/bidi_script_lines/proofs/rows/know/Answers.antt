@@ -17,4 +17,4 @@ pub returns-in-Err-clause-brings : goal.returns-in-Err-clause-brings
 returns-in-Err-clause-brings c = λ h.
     let script = script_of c.args.end.now.script in
     no-effect (KnowsMore c.args.names.now c.args.end.now c.names.new.self) _ (RefusesNames c.args.names.now script) c.in-Err.fault c.args.end.now c.names.new.self c.refused.result
-    c.refused.ensures.ok c.refused.ensures.has_reason c.in-Err.ensures.refused (no-names c.args.names.now script) (c.in-Err.ensures.end, c.in-Err.ensures.err)
+    c.refused.ensures.ok c.refused.ensures.has_reason c.in-Err.ensures.why (no-names c.args.names.now script) (c.in-Err.ensures.end, c.in-Err.ensures.err)

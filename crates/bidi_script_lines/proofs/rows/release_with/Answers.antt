@@ -26,4 +26,4 @@ pub returns-in-Err-clause-brings : goal.returns-in-Err-clause-brings
 returns-in-Err-clause-brings c = λ h s.
     let held = held_by c.args.number.value (script_of c.args.end.now.script) in
     no-effect (ReleasesWith c.args.number.value c.args.row.now h c.args.end.now c.release_with.new.self) _ (RefusesAnswer c.args.row.now held) c.in-Err.fault c.args.end.now c.release_with.new.self
-    c.refused.result c.refused.ensures.ok c.refused.ensures.has_reason c.in-Err.ensures.refused (no-answer c.args.row.now held) (c.in-Err.ensures.end, c.in-Err.ensures.err)
+    c.refused.result c.refused.ensures.ok c.refused.ensures.has_reason c.in-Err.ensures.why (no-answer c.args.row.now held) (c.in-Err.ensures.end, c.in-Err.ensures.err)

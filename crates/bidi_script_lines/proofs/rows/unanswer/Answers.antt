@@ -17,4 +17,4 @@ pub returns-in-Err-clause-brings : goal.returns-in-Err-clause-brings
 returns-in-Err-clause-brings c = λ h.
     let script = script_of c.args.end.now.script in
     no-effect (Removes c.args.method.now c.args.end.now c.unanswer.new.self) _ (RefusesRemoval c.args.method.now script) c.in-Err.fault c.args.end.now c.unanswer.new.self c.refused.result
-    c.refused.ensures.ok c.refused.ensures.has_reason c.in-Err.ensures.refused (no-removal c.args.method.now script) (c.in-Err.ensures.end, c.in-Err.ensures.err)
+    c.refused.ensures.ok c.refused.ensures.has_reason c.in-Err.ensures.why (no-removal c.args.method.now script) (c.in-Err.ensures.end, c.in-Err.ensures.err)

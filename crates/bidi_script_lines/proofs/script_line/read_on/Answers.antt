@@ -1,4 +1,4 @@
-use Rattle.std.proofs.Common.{refl, ap₂, ◌∷◌, ◌++◌, ◌∙◌, sym}
+use Rattle.std.proofs.Common.{ap₂}
 use Rattle.bidi_script_lines.specs.ScriptLines.{On}
 use Rattle.bidi_script_lines.proofs.OrderLemmas.{first_word}
 use Rattle.bidi_script_lines.proofs.script_line.read_on.Goals as goal

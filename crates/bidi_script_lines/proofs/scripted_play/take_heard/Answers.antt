@@ -1,4 +1,4 @@
-use Rattle.std.proofs.Common.{◌≡◌, Some, Ok, refl, subst}
+use Rattle.std.proofs.Common.{◌≡◌, Ok, refl, subst}
 use Rattle.bidi_sessions.specs.Step as steps
 use Rattle.bidi_sessions.specs.Step.{Step}
 use Rattle.bidi_scripted.specs.Script.{no_script}

@@ -1,4 +1,4 @@
-use Rattle.std.proofs.Common.{◌≡◌, ◌∙◌, Some, None, map, sym, ap, subst}
+use Rattle.std.proofs.Common.{◌∙◌, Some, map, sym, ap, subst}
 use Rattle.bidi_sessions.specs.View.{sent_of}
 use Rattle.bidi_sessions.specs.Step as steps
 use Rattle.bidi_names.specs.Asked.{Unsubscribes}
@@ -6,6 +6,8 @@ use Rattle.bidi_names.specs.Replies.{succeeded}
 use Rattle.bidi_names.specs.Subscriptions.{dismissed}
 use Rattle.bidi_names.specs.View.{texts_of, wanted_of}
 use Rattle.bidi_scripted.specs.declared.scripted_end.ScriptedEnd.{ScriptedEnd}
+use Rattle.bidi_scripted.specs.declared.scripted_end.Taken.TheVariants.{HandedOn}
+use Rattle.bidi_scripted.specs.Taken.{handed}
 use Rattle.bidi_scripted.specs.Becomes.{IsHandedOn}
 use Rattle.bidi_scripted.specs.Kept.{Hears, Takes, part_or}
 use Rattle.bidi_scripted.specs.Script.{OnlySubscriptionsChange}
@@ -23,24 +25,23 @@ returns-in-Ok-clause-takes c = λ h s.
     let part = part_or w.part c.args.text.now in
     let conn = c.args.conn.value in
     let session = c.args.session in
-    let new = c.hand_on_text.new.self in
-    let t = c.in-Ok.taken in
-    let P : ScriptedEnd → Type 0 = λ x. (t.held ≡ None)
-    × Takes conn h session (Some (Unsubscribes w)) self.end script x.end (script_of x.script) t (Hears part) in
-    let on = subst (λ x. IsHandedOn (steps.Text conn x) self.end new.end c.hand_on_text.result) c.part_or.ensures c.hand_on_text.ensures.handed_on in
-    let heard = subst (λ r. IsHandedOn (steps.Text conn part) self.end new.end r) c.in-Ok.is on in
+    let new = c.pass_on.new.self in
+    let sent = c.in-Ok.sent in
+    let P : ScriptedEnd → Type 0 = λ x. Takes conn h session (Some (Unsubscribes w)) self.end script x.end (script_of x.script) (HandedOn sent) (Hears part) in
+    let on = subst (λ x. IsHandedOn (steps.Text conn x) self.end new.end (handed c.pass_on.result)) c.part_or.ensures c.pass_on.ensures.handed_on in
+    let heard = subst (λ r. IsHandedOn (steps.Text conn part) self.end new.end (handed r)) c.in-Ok.is on in
     let stays = ap script_of c.in-Ok.ensures.script in
     let success = c.is_success.ensures ∙ ap (λ xs. succeeded (map sent_of xs)) c.deref.ensures.value in
     elim c.if-is_success.branch [
       | then-is_success v ↦
           subst P (sym v.self-is)
-          (takes-dismissed conn part h session self.end new.end script (script_of v.dismiss_named.new.self) t s heard w (sym success ∙ v.if-is_success.true)
+          (takes-dismissed conn part h session self.end new.end script (script_of v.dismiss_named.new.self) sent s heard w (sym success ∙ v.if-is_success.true)
           (v.dismiss_named.ensures ∙ (λ i. record (stays i) {
             named = dismissed session (texts_of (v.deref-then-is_success.ensures.value i)) (texts_of (v.deref-then-is_success-2.ensures.value i)) (stays i).named;
           })))
       | else-is_success v ↦
           subst P (sym v.self-is)
-          (takes-undismissed conn part h session self.end new.end script (script_of new.script) t s heard w (sym success ∙ v.if-is_success.false) stays)
+          (takes-undismissed conn part h session self.end new.end script (script_of new.script) sent s heard w (sym success ∙ v.if-is_success.false) stays)
     ]
 
 pub returns-in-Ok-clause-rest : goal.returns-in-Ok-clause-rest

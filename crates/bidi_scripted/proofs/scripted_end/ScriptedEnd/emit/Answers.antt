@@ -16,11 +16,12 @@ returns-clause-ok c = λ h s.
           ∙ ap₂ (λ before ns. map sent_of before ++ emitted (deeds h) (map named_of ns) event) c.new-sent.ensures.items c.deref.ensures.value,
     )
 
-pub returns-in_err-event-clause-refused : goal.returns-in_err-event-clause-refused
-returns-in_err-event-clause-refused c = refused _ _ c.from_residual.result c.from_residual.ensures.1 c.in_err-event.ensures.refused tt (λ f none. none)
+pub returns-in_err-event-clause-why : goal.returns-in_err-event-clause-why
+returns-in_err-event-clause-why c = refused _ _ c.from_residual.result c.from_residual.ensures.1 c.in_err-event.ensures.why tt (λ f why. why)
 
 pub returns-in_err-event-clause-worn_out : goal.returns-in_err-event-clause-worn_out
 returns-in_err-event-clause-worn_out c = λ h s is. absurd (unread-lives _ _ c.from_residual.ensures.1 is)
 
-pub returns-in_err-push_event-clause-refused : goal.returns-in_err-push_event-clause-refused
-returns-in_err-push_event-clause-refused c = remote-refused _ _ c.from_residual-in_err-push_event.result c.from_residual-in_err-push_event.ensures.1 tt tt
+pub returns-in_err-push_event-clause-why : goal.returns-in_err-push_event-clause-why
+returns-in_err-push_event-clause-why c = remote-refused _ _ c.from_residual-in_err-push_event.result c.from_residual-in_err-push_event.ensures.1 tt
+    (event_of c.in_ok-event.event, c.in_ok-event.ensures.ok)

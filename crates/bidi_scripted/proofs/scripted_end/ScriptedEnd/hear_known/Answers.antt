@@ -1,4 +1,4 @@
-use Rattle.std.proofs.Common.{◌≡◌, ◌∙◌, None, IfOk, sym, ap, subst}
+use Rattle.std.proofs.Common.{◌∙◌, IfOk, sym, ap, subst}
 use Rattle.bidi_scripted.specs.Kept.{IsNamed}
 use Rattle.bidi_scripted.specs.View.{script_of}
 use Rattle.bidi_scripted.proofs.FateLemmas.{with_err, anyhow}
@@ -10,7 +10,7 @@ pub returns-in-Some-clause-named : goal.returns-in-Some-clause-named
 returns-in-Some-clause-named c = λ h s.
     let self = c.args.self.now in
     let new = c.hear_session.new.self in
-    subst (λ o. IfOk c.hear_session.result (λ t. (t.held ≡ None) × IsNamed c.args.conn.value c.args.text.now h o self.end (script_of self.script) new.end (script_of new.script) t))
+    subst (λ o. IfOk c.hear_session.result (λ t. IsNamed c.args.conn.value c.args.text.now h o self.end (script_of self.script) new.end (script_of new.script) t))
     (sym c.in-Some.is ∙ c.session_of.ensures h s) (c.hear_session.ensures.named h s)
 
 pub returns-in-None-clause-named : goal.returns-in-None-clause-named

@@ -15,10 +15,7 @@ returns-in-Ok-clause-named c = λ h s.
     let it = c.in-Ok.ensures in
     let same = it.2 ∙ ap (λ ns. asked_in (texts_of ns) text it.0) c.deref.ensures.value in
     if-ok c.take_names.result (λ t p. (
-      p.0,
-      (
-        it.0,
-        it.1,
-        subst (λ a. Takes c.args.conn.value h c.args.session a self.end script new.end (script_of new.script) t (taking (deeds h) script c.args.session text a)) same p.1,
-      ),
+      it.0,
+      it.1,
+      subst (λ a. Takes c.args.conn.value h c.args.session a self.end script new.end (script_of new.script) t (taking (deeds h) script c.args.session text a)) same p,
     )) (c.take_names.ensures.takes h s)

@@ -1,6 +1,7 @@
 use Rattle.std.proofs.Common.{◌≡◌, true, subst}
 use Rattle.std.specs.Prelude.{IfErr, OnOk}
 use Rattle.bidi_rows.specs.Reading.{IsHoldingRow}
+use Rattle.bidi_rows.specs.Refusals as texts
 use Rattle.bidi_rows.specs.View.{row_of}
 use Rattle.bidi_scripted.specs.Faults.{RefusesRow}
 use Rattle.bidi_scripted.specs.Script.{has_room_for_row}
@@ -16,15 +17,15 @@ pub returns-clause-room : goal.returns-clause-room
 returns-clause-room c =
     subst (λ n. OnOk c.add_row.result (has_room_for_row (script_of c.args.self.now.script) n ≡ true)) c.in_ok-row.ensures.ok.0.bytes c.add_row.ensures.room
 
-pub returns-clause-refused : goal.returns-clause-refused
-returns-clause-refused c =
+pub returns-clause-why : goal.returns-clause-why
+returns-clause-why c =
     let script = script_of c.args.self.now.script in
-    if-err c.add_row.result (not-added (IsHoldingRow c.args.row.now) (row_of c.in_ok-row.row) script _ c.in_ok-row.ensures.ok)
-    (subst (λ n. IfErr c.add_row.result (RefusesRow (λ r. r ≡ row_of c.in_ok-row.row) script n)) c.in_ok-row.ensures.ok.0.bytes c.add_row.ensures.refused)
+    if-err c.add_row.result (not-added (texts.RefusesHolding c.args.row.now) (IsHoldingRow c.args.row.now) (row_of c.in_ok-row.row) script _ c.in_ok-row.ensures.ok)
+    (subst (λ n. IfErr c.add_row.result (RefusesRow (λ f. ⊥) (λ r. r ≡ row_of c.in_ok-row.row) script n)) c.in_ok-row.ensures.ok.0.bytes c.add_row.ensures.why)
 
-pub returns-in_err-row-clause-refused : goal.returns-in_err-row-clause-refused
-returns-in_err-row-clause-refused c =
-    refused _ _ c.from_residual.result c.from_residual.ensures.1 c.in_err-row.ensures.refused tt (λ f none. none)
+pub returns-in_err-row-clause-why : goal.returns-in_err-row-clause-why
+returns-in_err-row-clause-why c =
+    refused _ _ c.from_residual.result c.from_residual.ensures.1 c.in_err-row.ensures.why tt (λ f why. why)
 
 pub returns-in_err-row-clause-worn_out : goal.returns-in_err-row-clause-worn_out
 returns-in_err-row-clause-worn_out c = λ is. unread-lives _ _ c.from_residual.ensures.1 is

@@ -1,4 +1,4 @@
-use Rattle.std.proofs.Common.{◌≡◌, None, IfOk, option_map, sym, ap, subst}
+use Rattle.std.proofs.Common.{IfOk, option_map, sym, ap, subst}
 use Rattle.bidi_remote.specs.Machine.Outcome.{deeds}
 use Rattle.bidi_names.specs.View.{asked_seen}
 use Rattle.bidi_scripted.specs.Kept.{Takes, taking}
@@ -13,7 +13,7 @@ returns-in-None-clause-takes c = λ h s.
     let self = c.args.self.now in
     let new = c.hand_on_text.new.self in
     let script = script_of self.script in
-    subst (λ a. IfOk c.hand_on_text.result (λ t. (t.held ≡ None) × Takes c.args.conn.value h c.args.session (option_map asked_seen a) self.end script new.end (script_of new.script) t
+    subst (λ a. IfOk c.hand_on_text.result (λ t. Takes c.args.conn.value h c.args.session (option_map asked_seen a) self.end script new.end (script_of new.script) t
     (taking (deeds h) script c.args.session c.args.text.now (option_map asked_seen a)))) (sym c.in-None.is)
     (takes-none c.args.conn.value c.args.text.now _ _ _ _ c.hand_on_text.result h c.args.session s c.hand_on_text.ensures.handed_on (ap script_of c.hand_on_text.ensures.script))
 

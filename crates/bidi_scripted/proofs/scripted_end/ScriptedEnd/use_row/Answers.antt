@@ -1,4 +1,4 @@
-use Rattle.std.proofs.Common.{◌≡◌, Option, None, false, map, Vec, Global, refl, sym, subst}
+use Rattle.std.proofs.Common.{◌≡◌, Option, map, Vec, Global, refl, sym, subst}
 use Rattle.std.specs.Prelude.{find, option_map, IfOk}
 use Rattle.bidi_rows.specs.Rows.{matches}
 use Rattle.bidi_remote.specs.Machine.Outcome.{deeds}
@@ -6,6 +6,7 @@ use Rattle.bidi_sessions.specs.Step as steps
 use Rattle.bidi_sessions.specs.View.{sent_of}
 use Rattle.bidi_sessions.specs.declared.step.Sent as declared_sent
 use Rattle.bidi_scripted.specs.declared.scripted_end.Taken.{Taken}
+use Rattle.bidi_scripted.specs.declared.scripted_end.Taken.TheVariants as code
 use Rattle.bidi_scripted.specs.Becomes.{Becomes, sent_by}
 use Rattle.bidi_scripted.specs.View.{script_of}
 use Rattle.bidi_scripted.proofs.FateLemmas.{row-answers, row-holds}
@@ -22,9 +23,9 @@ returns-in-Ok-Some-clause-becomes c = λ h command s same at.
     let by = subst (λ (o : Option (Vec declared_sent.Sent Global)). option_map (λ v. map sent_of v.items) o ≡ sent_by past script.named n c.args.found.id.value r.0.action)
     c.in-Ok-Some.field-0-is (c.in-Ok-Some.ensures.sends h command r.0 s at r.1) in
     let it = row-answers script n text command c.args.found.id.value past (find (matches command) script.rows) r.0 (map sent_of c.in-Ok-Some.sent.items) r.1 by same in
-    let taken : Taken = record { sent = c.in-Ok-Some.sent; is_of_machine = false; held = None } in
+    let taken : Taken = code.Answered c.in-Ok-Some.sent in
     subst (λ f. Becomes f h (steps.Text n text) c.args.self.now.end script c.args.self.now.end (script_of c.use_row.new.self) taken) (sym it.1)
-    (it.2, refl, refl, refl, c.use_row.ensures.script command at)
+    (it.2, refl, c.use_row.ensures.script command at)
 
 pub returns-in-Ok-None-clause-becomes : goal.returns-in-Ok-None-clause-becomes
 returns-in-Ok-None-clause-becomes c = λ h command s same at.
