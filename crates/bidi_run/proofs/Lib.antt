@@ -1,2 +1,3 @@
 pub mod ScriptReduceLemmas
 pub mod TellingLemmas
+pub mod SummaryLemmas

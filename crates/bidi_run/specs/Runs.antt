@@ -11,8 +11,9 @@ use Rattle.bidi_command_line.specs.declared.run.StreamRun.TheVariants as asked
 use Rattle.bidi_command_line.specs.declared.run.BothOptions.{BothOptions}
 use Rattle.bidi_show.specs.Listings.{ListsAll, listing_run}
 use Rattle.bidi_show.specs.declared.showing.Listing.TheVariants.{All, RefusedAlone}
-use Rattle.bidi_why.specs.Telling.{TellsAll, TellsLines, report_run}
-use Rattle.bidi_why.specs.Conversing.{StopsConversation, TellsConversation}
+use Rattle.bidi_why.specs.Summary.{Entry}
+use Rattle.bidi_why.specs.Telling.{TellsAll, TellsCounted, TellsLines, report_run}
+use Rattle.bidi_why.specs.Conversing.{CountsConversation, StopsConversation, TellsConversation}
 use Rattle.bidi_remarks.specs.declared.texts.Form.{Form}
 use Rattle.bidi_remarks.specs.declared.texts.Form.TheVariants.{Words, Json}
 use Rattle.bidi_play.specs.Plays.{PlaysAll, lines_fault, play_run}
@@ -39,6 +40,12 @@ form_of is_json = if is_json then Json else Words
 -- the form in which a check of a conversation says why, or None if it does not
 abbrev pub both_form : BothOptions → Option Form
 both_form o = if o.is_why then Some (form_of o.is_json) else None
+
+-- A check with `--why` wrote its report of what it read, and the fact holds of how many lines it read and of how they are counted. No other run counts.
+abbrev pub Counts : StreamRun → (ℕ → List Entry → Type 0) → List ℕ → List ℕ → Type 0
+Counts (asked.Why o) P read wrote = TellsCounted (form_of o.is_json) o.side o.profile_only P read wrote
+Counts (asked.Both o) P read wrote = CountsConversation (both_form o) o.profile_only P read wrote
+Counts run P read wrote = ⊥
 
 -- A run without a fault has worked on all of its input. Its status is 0, or 1 if a check found a line to refuse or a command without a reply.
 abbrev pub Completes : StreamRun → ℕ → List ℕ → List ℕ → Type 0

@@ -1,10 +1,11 @@
 //! Runs: doing what a command line asks for, over the devices of a program.
-ghost use Rattle.std.specs.Prelude.{◌≡◌, ℕ, ◌+◌, ◌<◌, ◌≤◌, List, false, IsTrue, IfOk, IfErr, OnErr, MatchResult};
+ghost use Rattle.std.specs.Prelude.{◌≡◌, ℕ, ◌+◌, ◌<◌, ◌≤◌, List, true, false, IsTrue, IfOk, IfErr, OnErr, MatchResult};
 ghost use Rattle.bidi_lines.specs.Devices.{Moves};
 ghost use Rattle.bidi_play.specs.Plays.{Plays};
+ghost use Rattle.bidi_why.specs.Summary.{SumsUp};
 ghost use Rattle.bidi_run.specs.declared.faults.RunFault.{RunFault as Fault};
 ghost use Rattle.bidi_run.specs.declared.faults.RunFault.TheVariants as fault;
-ghost use Rattle.bidi_run.specs.Runs.{Completes, Stops, Tells, both_form, failed_reads, failed_writes, form_of, line_of, status_of, sums_up};
+ghost use Rattle.bidi_run.specs.Runs.{Completes, Counts, Stops, Tells, both_form, failed_reads, failed_writes, form_of, line_of, status_of, sums_up};
 
 use super::faults::RunFault;
 use super::pairing::play_pair;
@@ -33,11 +34,15 @@ pub fn run<R: Source, W: Sink, F: Sink>(
     sink: &mut W,
     faults: &mut F,
 ) -> u8
-    // With status 0 or 1, no device failed and all input was worked on; `faults` has at most the
-    // summary of a check with `--why`.
+    // With status 0 or 1, no device failed, all input was worked on, and what was written is what the
+    // run writes for it; nothing was written to `faults`, except by a check with `--why` and status 1.
     ensures done { result ≤ 1 → IsTrue (R.has_ended source.new) × (R.failures source.new ≡ R.failures source.old) × (W.failures sink.new ≡ W.failures sink.old)
         × (sums_up run.now result ≡ false → faults.new ≡ faults.old)
         × Moves (R.left source.old) (R.left source.new) (W.contents sink.old) (W.contents sink.new) (Completes run.now result) }
+    // A check with `--why` and status 1 wrote the summary of its report to `faults`, or a beginning of
+    // it if a write failed.
+    ensures summary { result ≤ 1 → sums_up run.now result ≡ true → Moves (R.left source.old) (R.left source.new) (W.contents sink.old) (W.contents sink.new)
+        (Counts run.now (SumsUp (F.contents faults.old) (F.contents faults.new) (F.failures faults.old) (F.failures faults.new))) }
     // With a greater status a fault ended the run: its line was written, and it says what was read
     // and written and which device failed.
     ensures stopped { 1 < result → (fault : Fault) × (result ≡ status_of fault)
@@ -73,6 +78,9 @@ fn finish<R: Source, W: Sink, F: Sink>(
     ensures writes { MatchResult result (λ _. W.failures sink.new ≡ W.failures sink.old)
         (λ fault. W.failures sink.new ≡ W.failures sink.old + failed_writes fault) }
     ensures quiet { IfOk result (λ status. sums_up run.now status ≡ false → faults.new ≡ faults.old) }
+    ensures summary { IfOk result (λ status. sums_up run.now status ≡ true
+        → Moves (R.left source.old) (R.left source.new) (W.contents sink.old) (W.contents sink.new)
+        (Counts run.now (SumsUp (F.contents faults.old) (F.contents faults.new) (F.failures faults.old) (F.failures faults.new)))) }
     ensures untold { OnErr result (faults.new ≡ faults.old) }
 {
     match run {
