@@ -35,6 +35,7 @@ PROGRAM = [
     ("documents", f"tools/blocks.py {BIDI}"),
     ("command lines", f"tools/command_lines.py {BIDI}"),
     ("scripted plays", f"tools/scripted_plays.py {BIDI}"),
+    ("reasons of JSON", f"tools/json_reasons.py {BIDI} 20000"),
     ("host checks", f"tools/host_checks.py {BIDI}"),
 ]
 # The words of `trials` that `rt ci` does not run, with the files of what they read and of what they have to write.

@@ -6,6 +6,7 @@ use Rattle.std.specs.Global.{Vec}
 use Rattle.std.specs.Result.{result_err}
 use Rattle.std.proofs.lemmas.Bool.Decides.{nat_tests}
 use Rattle.bidi_tree.specs.Node.{Node}
+use Rattle.bidi_tree.specs.declared.number.JsUint.{JsUint}
 use Rattle.bidi_tree.specs.Text.{tree_of, tree_of_text}
 use Rattle.bidi_shape.specs.Fits.{Fits}
 use Rattle.bidi_shape.specs.Name.{command}
@@ -16,7 +17,7 @@ use Rattle.bidi_shape.specs.declared.fault.ShapeFault.TheVariants.{NoFit, NoMemo
 use Rattle.bidi_params.specs.declared.error_code.ErrorCode.{ErrorCode}
 use Rattle.bidi_params.specs.declared.error_code.ErrorCode.TheVariants.{InvalidArgument}
 use Rattle.bidi_messages.specs.Verdict as verdict
-use Rattle.bidi_messages.specs.Verdict.{command_tree}
+use Rattle.bidi_messages.specs.Verdict.{command_tree, echoed_id}
 use Rattle.bidi_messages.specs.contracts.command.CommandShape.TheImpl.{ghosts}
 use Rattle.bidi_messages.specs.declared.command.Command.{Command}
 use Rattle.bidi_show.specs.MessageLines as show
@@ -24,11 +25,12 @@ use Rattle.bidi_show.specs.MessageLines.{HasTree, Refuses}
 use Rattle.bidi_lines.specs.declared.side.Side.{Side}
 use Rattle.bidi_lines.specs.declared.side.Side.TheVariants.{Local, Remote}
 use Rattle.bidi_remarks.specs.Trouble.{HasMisfit, HasNoTree, HasTrouble, IsTrouble, IsTroubleAt, Misfit, Trouble, bad, no_fit, is_too_large}
-use Rattle.bidi_remarks.specs.Trouble.{fits_none, is_no_text, is_not_json}
+use Rattle.bidi_remarks.specs.Trouble.{HasId, fits_none, is_no_text, is_not_json, of_tree}
 use Rattle.bidi_remarks.specs.Explaining.{Explains, Telling, is_refused, telling}
 use Rattle.bidi_remarks.specs.declared.bad_text.BadText.TheVariants.{ByteOrderMark, NotJson, NoUtf8, TooLarge, TooLong, NoDirection}
 use Rattle.bidi_remarks.specs.declared.bad_text.BadText.{BadText}
 use Rattle.bidi_remarks.specs.declared.texts.Form.{Form}
+use Rattle.bidi_syntax.specs.declared.fault.Fault.{Fault}
 
 -- the text that a line is has its tree
 pub has_tree : (line text : List ℕ) (t : Node) → (text ≡ line) × IsUtf8 line → tree_of_text None text ≡ Some t → HasTree line t
@@ -47,11 +49,26 @@ refused side line (Some s) e h = (string_bytes s, h)
 -- that is wrong with a line that has no tree
 pub bad_line : (side : Side) (line : List ℕ) (b : BadText) → HasNoTree line b → IsTrouble side line (bad b)
 bad_line side line (NoUtf8 place) (none, (front, valid, at)) = subst (λ (n : ℕ). IsTrouble side line (bad (NoUtf8 n))) (sym at) (is_no_text front none valid)
-bad_line side line NotJson h = is_not_json h.0 h.1
+bad_line side line (NotJson fault) (is, none, e) = subst (λ (f : Option Fault). IsTrouble side line (bad (NotJson f))) (sym e) (is_not_json is none)
 bad_line side line ByteOrderMark h = absurd h
 bad_line side line TooLong h = absurd h
 bad_line side line TooLarge h = absurd h
 bad_line side line NoDirection h = absurd h
+
+-- which has no tree
+pub treeless : (line : List ℕ) (b : BadText) → HasNoTree line b → (t : Node) → HasTree line t → ⊥
+treeless line (NoUtf8 place) (none, at) t (is, read) = none is
+treeless line (NotJson fault) (is, none, e) t (also, read) = absurd cc
+treeless line ByteOrderMark h t has = h
+treeless line TooLong h t has = h
+treeless line TooLarge h t has = h
+treeless line NoDirection h t has = h
+
+-- the id of a line that is read as a value
+pub id_found : {E : Type 0} (line : List ℕ) (t : Node) (r : Result (Option JsUint) E) → HasTree line t
+    → IfOk r (λ found. option_map (λ n. n.value) found ≡ echoed_id t) → IfOk r (λ id. HasId line (option_map (λ n. n.value) id))
+id_found line t (Ok found) has is = subst (HasId line) (sym is) (of_tree t has)
+id_found line t (Err e) has is = tt
 
 -- ---- lines of a local end
 
@@ -125,12 +142,12 @@ no_tree side line b h = (not_taken side b h, bad_line side line b h)
   where
     not_taken : (side : Side) (b : BadText) → HasNoTree line b → (why : List ℕ) × Refuses side line (Some why)
     not_taken Local (NoUtf8 place) (none, at) = verdict_refused line None InvalidArgument (record { text = λ is. absurd (none is); no_text = λ _. refl })
-    not_taken Local NotJson (is, none) = verdict_refused line None InvalidArgument (record {
+    not_taken Local (NotJson fault) (is, none, e) = verdict_refused line None InvalidArgument (record {
       text = λ _. verdict.is_not_json (no_json_tree line none);
       no_text = λ _. refl;
     })
     not_taken Remote (NoUtf8 place) (none, at) = (codes "not json", (show.Refused (codes "not json"), show.is_no_text none, refl))
-    not_taken Remote NotJson (is, none) = (codes "not json", (show.Refused (codes "not json"), show.is_not_json is none, refl))
+    not_taken Remote (NotJson fault) (is, none, e) = (codes "not json", (show.Refused (codes "not json"), show.is_not_json is none, refl))
     not_taken side ByteOrderMark h = absurd h
     not_taken side TooLong h = absurd h
     not_taken side TooLarge h = absurd h

@@ -1,1 +1,2 @@
 pub mod FindingLemmas
+pub mod RestLemmas

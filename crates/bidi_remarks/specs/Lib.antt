@@ -1,4 +1,5 @@
 pub mod Beyond
+pub mod Trimming
 pub mod Claim
 pub mod Trouble
 pub mod Texts

@@ -139,8 +139,8 @@ fn has_method(named: Option<Name>) -> bool
     )
 }
 
-// Whether a name is a vendor's: it has a colon, and the draft leaves such names to browsers.
-fn is_vendor_name(name: &str) -> bool
+/// Whether a name is a vendor's: it has a colon, and the draft leaves such names to browsers.
+pub(crate) fn is_vendor_name(name: &str) -> bool
     ensures { result ≡ is_vendor_name name.now }
 {
     name.as_bytes().iter().any(|byte| *byte == b':')

@@ -15,9 +15,10 @@ mod remark;
 mod result_misfit;
 mod telling;
 mod texts;
+mod trimming;
 
 pub use bad_text::BadText;
-pub use finding::{Trouble, begins_with_mark, has_odd_id, id_of, trouble_in};
+pub use finding::{Trouble, begins_with_mark, has_odd_id, id_in, trouble_in};
 pub use misfit::Misfit;
 pub use remark::{Remark, bad_line, id_waits, no_message, stray, too_many, unanswered_line};
 pub use result_misfit::bad_result;

@@ -1,5 +1,5 @@
 //! Trees that do not fit the rule of their end.
-ghost use Rattle.std.specs.Prelude.{◌≡◌, false, map, option_map, option_and_then, unwrap_or, string_bytes, IfOk};
+ghost use Rattle.std.specs.Prelude.{◌≡◌, Some, None, false, if◌then◌else◌, map, option_map, option_and_then, unwrap_or, string_bytes, IfOk};
 ghost use Rattle.bidi_tree.specs.Node.{get_of};
 ghost use Rattle.bidi_tree.specs.Kind.{text_in};
 ghost use Rattle.bidi_tree.specs.Outline.{outline_node};
@@ -7,13 +7,16 @@ ghost use Rattle.bidi_messages.specs.Verdict.{echoed_id, js_uint_in};
 ghost use Rattle.bidi_shape.specs.Term.{rule};
 ghost use Rattle.bidi_shape.specs.Fits.{Fits};
 ghost use Rattle.bidi_rules.specs.Names.{name_of, rule_text};
+ghost use Rattle.bidi_blame.specs.Blames.{Blames};
+ghost use Rattle.bidi_blame.specs.Reason as blamed;
 ghost use Rattle.bidi_blame.specs.Said.{told_by};
 ghost use Rattle.bidi_blame.specs.View.{reason_of, step_of};
 ghost use Rattle.bidi_blame.specs.Words.{choice_text, pointer_text};
-ghost use Rattle.bidi_remarks.specs.Trouble.{HasMisfit, method_of, misfit_of, pattern_text, reason_parts, rule_of, short_of, wants_of};
+ghost use Rattle.bidi_remarks.specs.Trouble.{HasFaultInRest, HasMisfit, method_of, misfit_of, misfit_parts, pattern_text, reason_parts, rule_of, short_of, wants_of};
 
 use crate::beyond::is_beyond;
 use crate::claim::{Kind, has, kind_of, no_key, short};
+use crate::trimming::trimmed;
 use bidi_blame::{Alternatives, Name, PathStep, Reason, blame, pointer, wanted};
 use bidi_lines::Side;
 use bidi_shape::Parsed;
@@ -64,7 +67,62 @@ pub(crate) fn find_misfit(
     let Some(reason) = blame(alloc, tree, rule_for(side))? else {
         unreachable!();
     };
-    in_words(alloc, id(tree), method(alloc, tree)?, &reason)
+    let first = reason_misfit(alloc, tree, &reason)?;
+    first_fault(alloc, side, tree, first)
+}
+
+// A reason why a tree, or a part of it, does not fit, in words.
+fn reason_misfit(
+    alloc: Global,
+    tree: &Outline<'_>,
+    reason: &Reason<'_, '_>,
+) -> Result<Misfit, AllocError>
+    ensures { IfOk result (λ m. misfit_of m ≡ misfit_parts (outline_node tree.now) (reason_of reason.now)) }
+{
+    in_words(alloc, id(tree), method(alloc, tree)?, reason)
+}
+
+// The first misfit of a tree, or, if that is wrong for the profile alone, one of the rest that is wrong for the draft.
+fn first_fault(
+    alloc: Global,
+    side: Side,
+    tree: &Outline<'_>,
+    first: Misfit,
+) -> Result<Misfit, AllocError>
+    ensures { IfOk result (λ m. (r : blamed.Reason) → Blames (outline_node tree.now) (rule (rule_of side)) r
+        → misfit_of first ≡ misfit_parts (outline_node tree.now) r → HasMisfit side (outline_node tree.now) (misfit_of m)) }
+{
+    if !first.is_beyond {
+        return Ok(first);
+    }
+    let found = fault_in_rest(alloc, side, tree)?;
+    match found {
+        Some(fault) => Ok(fault),
+        None => Ok(first),
+    }
+}
+
+// The misfit of a tree without the members that only the draft has, if that is wrong for the draft.
+fn fault_in_rest(
+    alloc: Global,
+    side: Side,
+    tree: &Outline<'_>,
+) -> Result<Option<Misfit>, AllocError>
+    ensures { IfOk result (λ found. HasFaultInRest side (outline_node tree.now) (option_map misfit_of found)) }
+{
+    let rest = trimmed(alloc, false, tree)?;
+    let Some(reason) = blame(alloc, &rest, rule_for(side))? else {
+        return Ok(None);
+    };
+    let misfit = reason_misfit(alloc, tree, &reason)?;
+    Ok(unless_beyond(misfit))
+}
+
+// The misfit, if it is wrong for the draft.
+fn unless_beyond(misfit: Misfit) -> Option<Misfit>
+    ensures { option_map misfit_of result ≡ (if (misfit_of misfit).is_beyond then None else Some (misfit_of misfit)) }
+{
+    if misfit.is_beyond { None } else { Some(misfit) }
 }
 
 // The rule of the texts of an end.
@@ -131,8 +189,8 @@ fn rule_name(name: Option<Name>) -> Option<&'static str>
     }
 }
 
-// The id of a tree, where it is a js-uint.
-fn id(tree: &Outline<'_>) -> Option<JsUint>
+/// The id of a tree, where it is a js-uint.
+pub(crate) fn id(tree: &Outline<'_>) -> Option<JsUint>
     ensures { option_map (λ n. n.value) result ≡ echoed_id (outline_node tree.now) }
 {
     match member(tree, "id") {

@@ -40,7 +40,8 @@ const WHY: StreamRun = StreamRun::Why(WhyOptions {
 
 const NO_JSON: &str = "x\n[\n";
 
-const EXPLAINED: &str = "line 1: not json\n\nline 2: not json\n";
+const EXPLAINED: &str =
+    "line 1: not json: wants a value at byte 1\n\nline 2: not json: wants a value or \"]\" at byte 2\n";
 
 /// A check of a conversation, a text of each end that is no JSON, and a command with no answer behind which one comes.
 const BOTH: StreamRun = StreamRun::Both(BothOptions {
