@@ -23,10 +23,13 @@
 //! A connection that fails does not affect the others. A [`HostingFault`] ends the host: the browser is gone,
 //! with its sessions.
 //!
-//! No clause of this crate is about sockets; what a line or a message does is proved in `bidi_recorder` and
-//! `bidi_remote`, and the rest is tested.
+//! # What is proved
+//! A host goes on by whole steps: for each thing that comes, a line is recorded, then what it brings about is done in
+//! order, and a page is answered last. Contracts read this off an account of what came and of what was done, which
+//! only `edge.rt` writes. Turns, deadlines, limits and what is answered to handshakes and calls are tested.
 #![tactic(auto)]
 
+mod account;
 mod arrivals;
 mod bounding;
 mod calls;
@@ -34,7 +37,10 @@ mod clients;
 mod clock;
 mod console;
 mod door;
+mod edge;
+mod handing;
 mod hosting;
+mod lifetime;
 mod manners;
 mod once;
 mod outcomes;
@@ -43,9 +49,11 @@ mod page_file;
 mod pages;
 mod peers;
 mod refusing;
+mod registry;
 mod sessions;
 mod slot;
 mod surroundings;
+mod taking;
 
 pub use bidi_peer::MOST_WAITING;
 pub use door::Door;

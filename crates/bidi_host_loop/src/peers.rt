@@ -1,4 +1,7 @@
 //! The connections that are held, each at a place of its own.
+ghost use Rattle.std.specs.Prelude.{◌≡◌, OnOk, Some};
+ghost use Rattle.bidi_host_loop.specs.Clients.{HandsIn};
+
 use crate::bounding::held_at;
 use crate::clock::earlier;
 use crate::own::Own;
@@ -21,6 +24,7 @@ struct Route {
 #[derive(Drop)]
 pub(crate) struct Peers {
     pub(crate) slots: Vec<Option<Slot>>,
+    // Where the connections of the remote end are, the newest first.
     routes: Vec<Route>,
     // The most places.
     most: usize,
@@ -31,6 +35,8 @@ pub(crate) struct Peers {
 }
 
 impl Peers {
+    ghost use Rattle.bidi_host_loop.specs.Clients.{Hands, HandsAt, place_of};
+
     /// Makes an empty collection with at most so many places. Takes no memory.
     pub(crate) fn new(alloc: Global, most: usize) -> Peers {
         Peers {
@@ -138,14 +144,28 @@ impl Peers {
         Ok(taken)
     }
 
-    /// Answers a handshake: the connection at a place is open, in this role.
-    pub(crate) fn open(&mut self, place: usize, role: Role) -> Result<(), AllocError> {
-        if let Role::Client(conn) = role {
-            self.routes.push(Route {
-                conn: conn.value,
-                place,
-            })?;
-        }
+    /// Answers a handshake: the connection at a place is open, and it is that of the remote end with this number.
+    pub(crate) fn open_client(&mut self, place: usize, conn: JsUint) -> Result<(), AllocError>
+        ensures { OnOk result (place_of conn.value self.new ≡ Some place) }
+    {
+        let route = Route {
+            conn: conn.value,
+            place,
+        };
+        self.routes.insert(0, route)?;
+        self.open_at(place, Role::Client(conn))?;
+        Ok(())
+    }
+
+    /// Answers a handshake: the connection at a place is open, and it is that of a page.
+    pub(crate) fn open_page(&mut self, place: usize) -> Result<(), AllocError> {
+        self.open_at(place, Role::Page)
+    }
+
+    // Answers the handshake at a place, whose connection has this role from now on.
+    fn open_at(&mut self, place: usize, role: Role) -> Result<(), AllocError>
+        ensures { self.new.routes ≡ self.old.routes }
+    {
         if let Some(Some(slot)) = self.slots.get_mut(place) {
             slot.role = role;
             slot.deadline = None;
@@ -204,19 +224,33 @@ impl Peers {
     }
 
     /// Queues a text for the connection at a place.
-    pub(crate) fn send_to(&mut self, place: usize, text: &str) -> Result<(), AllocError> {
+    pub(crate) fn send_to(&mut self, place: usize, text: &str) -> Result<(), AllocError>
+        ensures { OnOk result (HandsAt place text.now self.old self.new) }
+    {
         self.hold_payload(text.len());
         match self.slots.get_mut(place) {
-            Some(Some(slot)) => slot.send(text),
-            _ => Ok(()),
+            Some(there) => {
+                send_in(there, text)?;
+                Ok(())
+            }
+            None => Ok(()),
         }
     }
 
     /// Queues a text for the connection with a number, if it is held, or keeps it if the connection is the host's own.
-    pub(crate) fn send(&mut self, conn: JsUint, text: &str) -> Result<(), AllocError> {
-        if let Some(place) = self.place_of(conn) {
-            return self.send_to(place, text);
-        }
+    pub(crate) fn send(&mut self, conn: JsUint, text: &str) -> Result<(), AllocError>
+        ensures { OnOk result (Hands conn.value text.now self.old self.new) }
+    {
+        let Some(place) = self.place_of(conn) else {
+            self.keep_own(conn, text)?;
+            return Ok(());
+        };
+        self.send_to(place, text)?;
+        Ok(())
+    }
+
+    // Keeps a text for the host's own connection, if it is for that.
+    fn keep_own(&mut self, conn: JsUint, text: &str) -> Result<(), AllocError> {
         match &mut self.own {
             Some(own) => own.keep(conn, text),
             None => Ok(()),
@@ -266,7 +300,9 @@ impl Peers {
     }
 
     // The place of the connection with a number.
-    fn place_of(&self, conn: JsUint) -> Option<usize> {
+    fn place_of(&self, conn: JsUint) -> Option<usize>
+        ensures { result ≡ place_of conn.value self.now }
+    {
         let route = self.routes.iter().find(|route| route.conn == conn.value)?;
         Some(route.place)
     }
@@ -411,6 +447,19 @@ impl Peers {
             }
         }
         next
+    }
+}
+
+// Queues a text for what is held at a place.
+fn send_in(there: &mut Option<Slot>, text: &str) -> Result<(), AllocError>
+    ensures { OnOk result (HandsIn text.now there.old there.new) }
+{
+    match there {
+        Some(slot) => {
+            slot.send(text)?;
+            Ok(())
+        }
+        None => Ok(()),
     }
 }
 
