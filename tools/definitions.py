@@ -29,8 +29,34 @@ def table(path, found):
     return lines
 
 
+def under(call, clause):
+    """The definitions on which a clause of a public call rests: those that it names, those that they name, and so on."""
+    [first] = [it for place in sources.libraries() for it in sources.calls(place) if f"{it.crate}.{it.title}" == call and it.name]
+    todo, found = [(first.path, first.crate, "", it.text) for it in first.clauses if it.name == clause], {}
+    while todo:
+        path, crate, module, text = todo.pop()
+        for it in sources.named(path, text, crate, module):
+            if (it.path, it.name) not in found:
+                found[it.path, it.name] = it
+                todo.append((it.path, it.crate, it.module, it.text))
+    return found.values()
+
+
+def headline():
+    """The files in which the definitions under the headline stand."""
+    found = under("bidi_play.play", "ok")
+    count = len({it.path for it in found})
+    lines = ["\n## Under the headline\n", f"The clause `ok` of `play` rests on {len(found)} definitions in {count} files.\n"]
+    lines += ["| crate | files in `specs/` |", "|---|---|"]
+    for crate in reversed(sources.libraries()):
+        paths = sorted({it.path for it in found if it.crate == crate})
+        cells = [f"[{path.stem}](../{path.relative_to(sources.ROOT)})" for path in paths]
+        lines += [f"| `{crate}` | {', '.join(cells)} |"] if cells else []
+    return lines
+
+
 def made():
-    lines = [HEAD]
+    lines = [HEAD, *headline()]
     for crate in sources.libraries():
         found = sources.definitions(crate)
         if found:

@@ -1,7 +1,7 @@
 #!/usr/bin/env python3
 """Keeps what docs/THEOREMS.md quotes from the source word for word.
 
-    theorems.py --write      fills in each quote and the table of the headline's files
+    theorems.py --write      fills in each quote
     theorems.py --check      ends with status 1 if one of them differs, but for line breaks, or an edit that is named does not stand where
                              the page says
     theorems.py --show TEXT  prints one quote
@@ -18,7 +18,6 @@ import sources
 
 PAGE = sources.ROOT / "docs/THEOREMS.md"
 QUOTE = re.compile(r"^```(rust|agda) (\S[^\n]*)\n(.*?)^```$", re.M | re.S)
-FILES = re.compile(r"(<!-- the files of (\w+) -->\n).*?(?=<!-- end -->)", re.S)
 
 
 def only(name, found):
@@ -66,34 +65,8 @@ def quote(kind, what):
     return "\n".join([f"// {it.path.relative_to(sources.ROOT)}: {it.title}", *texts]) + "\n"
 
 
-def below(name):
-    """The definitions on which a clause of a call rests: those that it names, those that they name, and so on."""
-    first = call(name)
-    todo, found = [(first.path, first.crate, "", clause.text) for clause in first.clauses if clause.name == "ok"], {}
-    while todo:
-        path, crate, module, text = todo.pop()
-        for it in sources.named(path, text, crate, module):
-            if (it.path, it.name) not in found:
-                found[it.path, it.name] = it
-                todo.append((it.path, it.crate, it.module, it.text))
-    return found.values()
-
-
-def files(name):
-    """A table of the files in which these definitions stand."""
-    found, lines = below(name), ["| crate | files in `specs/` |", "|---|---|"]
-    for crate in reversed(sources.libraries()):
-        here = [it for it in found if it.crate == crate]
-        paths = sorted({it.path for it in here})
-        cells = [f"[{path.stem}](../{path.relative_to(sources.ROOT)})" for path in paths]
-        lines += [f"| `{crate}` | {', '.join(cells)} |"] if cells else []
-    count = len({it.path for it in found})
-    return "\n".join([*lines, "", f"These are {len(found)} definitions in {count} files."]) + "\n"
-
-
 def made(page):
-    page = QUOTE.sub(lambda m: f"```{m[1]} {m[2]}\n{quote(m[1], m[2])}```", page)
-    return FILES.sub(lambda m: m[1] + files(m[2]), page)
+    return QUOTE.sub(lambda m: f"```{m[1]} {m[2]}\n{quote(m[1], m[2])}```", page)
 
 
 def wrong_edits(page):
