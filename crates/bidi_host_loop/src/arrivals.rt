@@ -1,4 +1,8 @@
 //! New connections: accepting them, and admitting them when they ask for a resource.
+ghost use Rattle.std.specs.Prelude.{[], ◌∷◌, OnOk, string_bytes};
+ghost use Rattle.bidi_host_loop.specs.Deeds.{Asked};
+ghost use Rattle.bidi_host_loop.specs.Runs.{Asks};
+
 use crate::clock::{PATIENCE, seconds_from_now};
 use crate::door::{Accepted, Door};
 use crate::hosting::Hosted;
@@ -29,12 +33,16 @@ const SESSION: &str = "/session";
 const SESSIONS: &str = "/session/";
 
 impl Hosted {
+    ghost use Rattle.bidi_host_loop.specs.Goes.{By, Meets, Rests};
+
     // Accepts the waiting connections.
     pub(crate) fn accept_all<W: Surroundings>(
         &mut self,
         door: &mut Door,
         world: &mut W,
-    ) -> Result<(), HostingFault> {
+    ) -> Result<(), HostingFault>
+        ensures { OnOk result (Rests self.old self.new) }
+    {
         if !door.has_clients() {
             return Ok(());
         }
@@ -56,66 +64,90 @@ impl Hosted {
         door: &mut Door,
         stream: TcpStream,
         deadline: Option<Instant>,
-    ) -> Result<(), HostingFault> {
-        if self.end.is_some() {
+    ) -> Result<(), HostingFault>
+        ensures { OnOk result (Rests self.old self.new) }
+    {
+        if self.lifetime.is_ending() {
             return Ok(());
         }
-        let Some(place) = self.peers.place() else {
+        let Some(place) = self.edge.peers.place() else {
             return Ok(());
         };
         if let Some(stream) = door.watch(stream, place) {
             let peer = Peer::with_bound(self.alloc, stream, self.manners.most_waiting);
-            self.peers.put(place, peer, deadline)?;
+            self.edge.peers.put(place, peer, deadline)?;
         }
         Ok(())
     }
 
     // Admits or denies a client that asks for a resource.
+    #[tactic(auto, using(crate::proofs::RunLemmas::asked_run))]
     pub(crate) fn admit<W: Surroundings>(
         &mut self,
         world: &mut W,
         place: usize,
         resource: String,
-    ) -> Result<(), HostingFault> {
-        if resource.as_str() == PAGE {
-            return self.admit_page(place);
+    ) -> Result<(), HostingFault>
+        ensures { Meets (Asked place (string_bytes resource) ∷ []) self.old self.new result }
+    {
+        self.ask_for(world, place, resource.as_str())?;
+        Ok(())
+    }
+
+    // A client asks for a resource.
+    fn ask_for<W: Surroundings>(
+        &mut self,
+        world: &mut W,
+        place: usize,
+        resource: &str,
+    ) -> Result<(), HostingFault>
+        ensures { OnOk result (By (Asks place resource.now) self.old self.new) }
+    {
+        if resource == PAGE {
+            self.admit_page(place)?;
+            return Ok(());
         }
-        if let Some(status) = self.refusing.next() {
-            return Ok(self.peers.refuse(place, RequestRefusal::OfTest(status))?);
+        if let Some(status) = self.registry.refusing.next() {
+            self.edge.refuse_by_test(place, status)?;
+            return Ok(());
         }
-        let conn = self.next_conn()?;
-        let taken = self.host.opened(conn, resource.as_str())?;
-        self.deliver(world, taken)?;
-        if self.host.is_open(conn) {
-            if self.manners.ends_sessions {
-                self.sessions.opened(self.alloc, conn, resource.as_str())?;
-            }
-            self.peers.open(place, Role::Client(conn))?;
-        } else {
-            let refusal = self.refusal(resource.as_str());
-            self.peers.refuse(place, refusal)?;
+        let conn = self.registry.next_number()?;
+        self.opens(world, conn, resource)?;
+        self.admit_client(place, conn, resource)?;
+        Ok(())
+    }
+
+    // Admits a client whose connection the remote end has opened, and denies any other.
+    fn admit_client(
+        &mut self,
+        place: usize,
+        conn: JsUint,
+        resource: &str,
+    ) -> Result<(), HostingFault>
+        ensures { OnOk result (Rests self.old self.new) }
+    {
+        if !self.host.is_open(conn) {
+            let refusal = self.refusal(resource);
+            self.edge.peers.refuse(place, refusal)?;
+            return Ok(());
         }
+        if self.manners.ends_sessions {
+            self.registry.sessions.opened(self.alloc, conn, resource)?;
+        }
+        self.edge.peers.open(place, Role::Client(conn))?;
         Ok(())
     }
 
     // Admits or denies a client that asks to be a page.
-    fn admit_page(&mut self, place: usize) -> Result<(), HostingFault> {
-        if self.peers.pages() < MOST_PAGES {
-            self.peers.open(place, Role::Page)?;
+    fn admit_page(&mut self, place: usize) -> Result<(), HostingFault>
+        ensures { OnOk result (Rests self.old self.new) }
+    {
+        if self.edge.peers.pages() < MOST_PAGES {
+            self.edge.peers.open(place, Role::Page)?;
         } else {
-            self.peers.refuse(place, RequestRefusal::Full)?;
+            self.edge.peers.refuse(place, RequestRefusal::Full)?;
         }
         Ok(())
-    }
-
-    // The number of the next connection.
-    pub(crate) fn next_conn(&mut self) -> Result<JsUint, HostingFault> {
-        let count = self.count.saturating_add(1);
-        let Some(conn) = JsUint::new(count) else {
-            return Err(HostingFault::WornOut);
-        };
-        self.count = count;
-        Ok(conn)
     }
 
     // Why a connection at this resource is denied.
@@ -127,8 +159,9 @@ impl Hosted {
             RequestRefusal::NotFound
         }
     }
+
     // Whether as many connections of the remote end are open as may be.
     pub(crate) fn has_most_clients(&self) -> bool {
-        self.peers.clients() >= MOST_CLIENTS
+        self.edge.peers.clients() >= MOST_CLIENTS
     }
 }

@@ -1,4 +1,6 @@
 //! What all connections hold together, and which give way if it is too much.
+ghost use Rattle.std.specs.Prelude.{◌≡◌};
+
 use crate::peers::Peers;
 use crate::slot::Slot;
 use std::alloc::AllocError;
@@ -39,14 +41,18 @@ impl Peers {
     }
 
     /// Notes that so many bytes more may be held.
-    pub(crate) fn hold(&mut self, more: usize) {
+    pub(crate) fn hold(&mut self, more: usize)
+        ensures { (self.new.slots ≡ self.old.slots) × (self.new.routes ≡ self.old.routes) }
+    {
         self.held = self.held.saturating_add(more);
     }
 
     /// Notes that a payload of this length may wait on a connection.
     ///
     /// It counts twice, because the block of memory in which it waits grows to twice its size.
-    pub(crate) fn hold_payload(&mut self, length: usize) {
+    pub(crate) fn hold_payload(&mut self, length: usize)
+        ensures { (self.new.slots ≡ self.old.slots) × (self.new.routes ≡ self.old.routes) }
+    {
         self.hold(length.saturating_add(FRAMING).saturating_mul(2));
     }
 }

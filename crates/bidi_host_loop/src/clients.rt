@@ -1,4 +1,9 @@
-//! Messages that come in on the connections, and messages that go out.
+//! Messages that come in on the connections.
+ghost use Rattle.std.specs.Prelude.{◌≡◌, [], ◌∷◌, IfOk, OnOk, false, string_bytes};
+ghost use Rattle.bidi_peer.specs.declared.peer.Came.TheVariants as came;
+ghost use Rattle.bidi_host_loop.specs.Deeds.{Gone, Heard, HeardBytes, coming};
+ghost use Rattle.bidi_host_loop.specs.Runs.{Hears, Loses};
+
 use crate::clock::{PATIENCE, seconds_from_now};
 use crate::hosting::Hosted;
 use crate::page_file::add;
@@ -6,9 +11,7 @@ use crate::slot::Role;
 use crate::surroundings::Surroundings;
 use bidi_lenient::{Eased, ease};
 use bidi_peer::Came;
-use bidi_recorder::{HostingFault, Recorded};
-use bidi_remote::{Sent, SentText};
-use bidi_script_lines::Outcome;
+use bidi_recorder::HostingFault;
 use bidi_tree::JsUint;
 
 /// How many messages of one connection are taken before it is the next one's turn.
@@ -21,13 +24,14 @@ const MOST_REPORTS: usize = 256;
 const END: &str = r#"{"id":0,"method":"session.end","params":{}}"#;
 
 impl Hosted {
+    ghost use Rattle.bidi_host_loop.specs.Goes.{By, GoesOn, Meets, Rests};
+
     // Takes what came in on all connections.
-    pub(crate) fn serve_ready<W: Surroundings>(
-        &mut self,
-        world: &mut W,
-    ) -> Result<(), HostingFault> {
-        for place in 0..self.peers.len() {
-            if self.peers.is_ready(place) {
+    pub(crate) fn serve_ready<W: Surroundings>(&mut self, world: &mut W) -> Result<(), HostingFault>
+        ensures { GoesOn self.old self.new result }
+    {
+        for place in 0..self.edge.peers.len() {
+            if self.edge.peers.is_ready(place) {
                 self.serve_place(world, place)?;
             }
         }
@@ -39,31 +43,48 @@ impl Hosted {
         &mut self,
         world: &mut W,
         place: usize,
-    ) -> Result<(), HostingFault> {
+    ) -> Result<(), HostingFault>
+        ensures { GoesOn self.old self.new result }
+    {
         for _ in 0..MOST_TAKES {
-            let (role, came) = self.peers.take(place)?;
-            let goes_on = self.handle(world, place, role, came)?;
-            self.bound_what_is_held()?;
-            if !goes_on {
+            if !self.serve_once(world, place)? {
                 return Ok(());
             }
         }
         Ok(())
     }
 
-    // Fails the connections that hold most, if all together hold too much.
-    fn bound_what_is_held(&mut self) -> Result<(), HostingFault> {
-        Ok(self.peers.hold_at_most(self.manners.most_held)?)
+    // Takes one thing that came in on a connection. Returns whether more is taken in this turn.
+    fn serve_once<W: Surroundings>(
+        &mut self,
+        world: &mut W,
+        place: usize,
+    ) -> Result<bool, HostingFault>
+        ensures { GoesOn self.old self.new result }
+    {
+        let (role, came) = self.edge.take(place)?;
+        let goes_on = self.handle(world, place, role, came)?;
+        self.bound_what_is_held()?;
+        Ok(goes_on)
     }
 
-    // Takes one thing that came in. Returns whether more is taken in this turn.
+    // Fails the connections that hold most, if all together hold too much.
+    pub(crate) fn bound_what_is_held(&mut self) -> Result<(), HostingFault>
+        ensures { OnOk result (Rests self.old self.new) }
+    {
+        Ok(self.edge.peers.hold_at_most(self.manners.most_held)?)
+    }
+
+    // Meets one thing that came in. Returns whether more is taken in this turn.
     fn handle<W: Surroundings>(
         &mut self,
         world: &mut W,
         place: usize,
         role: Role,
         came: Came,
-    ) -> Result<bool, HostingFault> {
+    ) -> Result<bool, HostingFault>
+        ensures { Meets (coming place role came) self.old self.new result }
+    {
         match came {
             Came::Nothing | Came::More => return Ok(false),
             Came::Asks(resource) => self.admit(world, place, resource)?,
@@ -82,9 +103,11 @@ impl Hosted {
         place: usize,
         role: Role,
         text: String,
-    ) -> Result<(), HostingFault> {
+    ) -> Result<(), HostingFault>
+        ensures { Meets (coming place role (came.Text text)) self.old self.new result }
+    {
         match role {
-            Role::Client(conn) => self.hear(world, conn, text),
+            Role::Client(conn) => self.client_says(world, conn, text),
             Role::Page => self.answer_page(world, place, text),
             Role::Arriving | Role::Leaving => Ok(()),
         }
@@ -96,12 +119,11 @@ impl Hosted {
         world: &mut W,
         place: usize,
         role: Role,
-    ) -> Result<(), HostingFault> {
+    ) -> Result<(), HostingFault>
+        ensures { Meets (coming place role came.NotText) self.old self.new result }
+    {
         match role {
-            Role::Client(conn) => {
-                let taken = self.host.heard_no_text(conn)?;
-                self.deliver(world, taken)
-            }
+            Role::Client(conn) => self.client_sends_bytes(world, conn),
             Role::Page => self.refuse_bytes(place),
             Role::Arriving | Role::Leaving => Ok(()),
         }
@@ -113,54 +135,108 @@ impl Hosted {
         world: &mut W,
         place: usize,
         role: Role,
-    ) -> Result<(), HostingFault> {
+    ) -> Result<(), HostingFault>
+        ensures { Meets (coming place role came.Ended) self.old self.new result }
+    {
         let deadline = seconds_from_now(world, PATIENCE)?;
-        self.peers.leave(place, role, deadline);
+        self.edge.peers.leave(place, role, deadline);
         match role {
-            Role::Client(conn) => self.lose(world, conn),
+            Role::Client(conn) => self.client_ends(world, conn),
             Role::Page | Role::Arriving | Role::Leaving => Ok(()),
         }
     }
 
-    // Gives the remote end a client's text.
-    pub(crate) fn hear<W: Surroundings>(
+    // A client says a text.
+    #[tactic(auto, using(crate::proofs::RunLemmas::heard_run))]
+    fn client_says<W: Surroundings>(
         &mut self,
         world: &mut W,
         conn: JsUint,
         text: String,
-    ) -> Result<(), HostingFault> {
-        let text = if self.manners.is_lenient {
-            self.eased(world, text)?
-        } else {
-            text
-        };
-        let taken = self.host.heard(conn, text)?;
-        self.deliver(world, taken)
+    ) -> Result<(), HostingFault>
+        ensures { Meets (Heard conn.value (string_bytes text) ∷ []) self.old self.new result }
+    {
+        self.hears_eased(world, conn, text)?;
+        Ok(())
     }
 
-    // Makes of a client's text what the profile takes, and reports what was done.
+    // A client sends a binary message.
+    #[tactic(auto, using(crate::proofs::RunLemmas::heard_bytes_run))]
+    fn client_sends_bytes<W: Surroundings>(
+        &mut self,
+        world: &mut W,
+        conn: JsUint,
+    ) -> Result<(), HostingFault>
+        ensures { Meets (HeardBytes conn.value ∷ []) self.old self.new result }
+    {
+        self.hears_no_text(world, conn)?;
+        Ok(())
+    }
+
+    // The connection of a client has ended.
+    #[tactic(auto, using(crate::proofs::RunLemmas::lost_run))]
+    fn client_ends<W: Surroundings>(
+        &mut self,
+        world: &mut W,
+        conn: JsUint,
+    ) -> Result<(), HostingFault>
+        ensures { Meets (Gone conn.value ∷ []) self.old self.new result }
+    {
+        self.lose(world, conn)?;
+        Ok(())
+    }
+
+    // Gives the remote end a client's text, eased if the host is lenient.
+    pub(crate) fn hears_eased<W: Surroundings>(
+        &mut self,
+        world: &mut W,
+        conn: JsUint,
+        text: String,
+    ) -> Result<(), HostingFault>
+        ensures { OnOk result (By (Hears self.old.manners.is_lenient conn.value (string_bytes text)) self.old self.new) }
+    {
+        let text = self.eased(world, text)?;
+        self.hears(world, conn, text)?;
+        Ok(())
+    }
+
+    // Makes of a client's text what the profile takes, if the host is lenient, and reports what was done.
     fn eased<W: Surroundings>(
         &mut self,
         world: &mut W,
         text: String,
-    ) -> Result<String, HostingFault> {
-        let Some(
-            Eased {
-                text: eased,
-                reports,
-            },
-        ) = ease(self.alloc, text.as_str())?
-        else {
+    ) -> Result<String, HostingFault>
+        ensures same { IfOk result (λ eased. self.old.manners.is_lenient ≡ false → string_bytes eased ≡ string_bytes text) }
+        ensures rests { OnOk result (Rests self.old self.new) }
+    {
+        if !self.manners.is_lenient {
             return Ok(text);
-        };
-        for report in reports {
+        }
+        match ease(self.alloc, text.as_str())? {
+            Some(eased) => self.eased_as(world, text, eased),
+            None => Ok(text),
+        }
+    }
+
+    // Reports what was done to a text. Returns what the profile takes.
+    fn eased_as<W: Surroundings>(
+        &mut self,
+        world: &mut W,
+        text: String,
+        eased: Eased,
+    ) -> Result<String, HostingFault>
+        ensures { OnOk result (Rests self.old self.new) }
+    {
+        for report in eased.reports {
             self.tell(world, report)?;
         }
-        Ok(eased.unwrap_or(text))
+        Ok(eased.text.unwrap_or(text))
     }
 
     // Reports this, unless it was reported before or too much was reported.
-    fn tell<W: Surroundings>(&mut self, world: &mut W, report: String) -> Result<(), HostingFault> {
+    fn tell<W: Surroundings>(&mut self, world: &mut W, report: String) -> Result<(), HostingFault>
+        ensures { OnOk result (Rests self.old self.new) }
+    {
         if self.told.len() >= MOST_REPORTS
             || self
                 .told
@@ -176,90 +252,16 @@ impl Hosted {
 
     // A connection of the remote end is gone. Ends its session, if the host does so and it was the
     // last connection.
-    fn lose<W: Surroundings>(&mut self, world: &mut W, conn: JsUint) -> Result<(), HostingFault> {
-        if self.manners.ends_sessions && self.sessions.forget(conn) {
+    fn lose<W: Surroundings>(&mut self, world: &mut W, conn: JsUint) -> Result<(), HostingFault>
+        ensures { OnOk result (By (Loses conn.value) self.old self.new) }
+    {
+        if self.manners.ends_sessions && self.registry.sessions.forget(conn) {
             let end = String::from_str(self.alloc, END)?;
-            let taken = self.host.heard(conn, end)?;
-            self.deliver(world, taken)?;
+            self.hears(world, conn, end)?;
+            self.drops(world, conn)?;
+            return Ok(());
         }
-        if self.host.is_open(conn) {
-            let taken = self.host.dropped(conn)?;
-            self.deliver(world, taken)?;
-        }
-        Ok(())
-    }
-
-    // Records an input that was taken, and does what it brings about.
-    pub(crate) fn deliver<W: Surroundings>(
-        &mut self,
-        world: &mut W,
-        taken: Recorded,
-    ) -> Result<(), HostingFault> {
-        self.note_session()?;
-        world.record(taken.line.as_str())?;
-        self.bring_about(world, taken.outcome)?;
-        self.bound_what_is_held()
-    }
-
-    // Does what an input brings about.
-    fn bring_about<W: Surroundings>(
-        &mut self,
-        world: &mut W,
-        outcome: Outcome,
-    ) -> Result<(), HostingFault> {
-        match outcome {
-            Outcome::OfMachine(sent) => self.hand_on_with_followers(world, sent),
-            Outcome::Sent(sent) => self.hand_on_all(world, sent),
-            other => self.carry_out(world, other),
-        }
-    }
-
-    // Sends each message to its connection, and what follows it behind it.
-    fn hand_on_with_followers<W: Surroundings>(
-        &mut self,
-        world: &mut W,
-        messages: Vec<Sent>,
-    ) -> Result<(), HostingFault> {
-        for one in messages {
-            let followers = self.host.followers_of(&one)?;
-            self.hand_on(world, one)?;
-            self.hand_on_all(world, followers)?;
-        }
-        Ok(())
-    }
-
-    // Sends each message to its connection.
-    fn hand_on_all<W: Surroundings>(
-        &mut self,
-        world: &mut W,
-        all: Vec<Sent>,
-    ) -> Result<(), HostingFault> {
-        for one in all {
-            self.hand_on(world, one)?;
-        }
-        Ok(())
-    }
-
-    // Sends one message to its connection.
-    fn hand_on<W: Surroundings>(&mut self, world: &mut W, one: Sent) -> Result<(), HostingFault> {
-        match one {
-            Sent::Text(conn, text) => self.send(conn, text),
-            Sent::Close(conn) => {
-                let deadline = seconds_from_now(world, PATIENCE)?;
-                self.sessions.forget(conn);
-                self.peers.close(conn, deadline)?;
-                Ok(())
-            }
-            Sent::Opened(_) | Sent::Denied(_) | Sent::Lost(_) | Sent::NoEffect => Ok(()),
-        }
-    }
-
-    // Sends a text on a connection.
-    fn send(&mut self, conn: JsUint, text: SentText) -> Result<(), HostingFault> {
-        if self.manners.ends_sessions {
-            self.sessions.sent(self.alloc, conn, text.as_str())?;
-        }
-        self.peers.send(conn, text.as_str())?;
+        self.drops(world, conn)?;
         Ok(())
     }
 }

@@ -36,6 +36,8 @@ pub(crate) struct Console {
     // Whether the next bytes are the rest of a line that was too long.
     is_passing: bool,
     has_ended: bool,
+    /// Whether a read gives something at once, as far as is known.
+    pub(crate) is_ready: bool,
 }
 
 impl Console {
@@ -47,6 +49,7 @@ impl Console {
             searched: 0,
             is_passing: false,
             has_ended: false,
+            is_ready: false,
         }
     }
 

@@ -1,11 +1,14 @@
 //! Many connections of one remote end, served in turns.
+ghost use Rattle.std.specs.Prelude.{◌≡◌, [], IfOk, OnOk, true};
+ghost use Rattle.bidi_host_loop.specs.Runs.{IsNew, Plays};
+
 use crate::clock::{shorter, time};
 use crate::console::Console;
 use crate::door::Door;
+use crate::edge::Edge;
+use crate::lifetime::Lifetime;
 use crate::manners::Manners;
-use crate::peers::Peers;
-use crate::refusing::Refusing;
-use crate::sessions::Sessions;
+use crate::registry::Registry;
 use crate::surroundings::Surroundings;
 use bidi_recorder::{Host, HostingFault};
 use std::alloc::Global;
@@ -20,21 +23,17 @@ pub struct Hosted {
     pub(crate) manners: Manners,
     pub(crate) host: Host,
     // The page lines that each new browser plays first.
-    pub(crate) page: Vec<String>,
-    pub(crate) peers: Peers,
-    pub(crate) sessions: Sessions,
+    page: Vec<String>,
+    // The connections, and what was done.
+    pub(crate) edge: Edge,
+    // What is known of the clients.
+    pub(crate) registry: Registry,
+    // Standard input.
     pub(crate) console: Console,
-    pub(crate) is_console_ready: bool,
     // What was reported on clients' texts.
     pub(crate) told: Vec<String>,
-    // How many connections the remote end was asked to open since it was new.
-    pub(crate) count: u64,
-    // Which handshakes a test has refused.
-    pub(crate) refusing: Refusing,
-    // When the host ends, whatever its connections do; `None` while it serves.
-    pub(crate) end: Option<Instant>,
-    // Whether there was a session, if the host ends after the last one.
-    pub(crate) had_session: bool,
+    // When the host ends.
+    pub(crate) lifetime: Lifetime,
 }
 
 impl Drop for Hosted {
@@ -44,40 +43,37 @@ impl Drop for Hosted {
             manners: _,
             host: _,
             page: _,
-            peers: _,
-            sessions: _,
+            edge: _,
+            registry: _,
             console: _,
-            is_console_ready: _,
             told: _,
-            count: _,
-            refusing: _,
-            end: _,
-            had_session: _,
+            lifetime: _,
         } = self;
     }
 }
 
 impl Hosted {
+    ghost use Rattle.bidi_host_loop.specs.Goes.{By, GoesOn};
+
     /// Makes a host without connections. Each new browser plays these page lines first; [`Hosted::begin`]
     /// plays them for the first browser.
     ///
     /// # Errors
     /// `NoMemory`: an allocation failed.
-    pub fn new(alloc: Global, manners: Manners, page: Vec<String>) -> Result<Hosted, HostingFault> {
+    pub fn new(alloc: Global, manners: Manners, page: Vec<String>) -> Result<Hosted, HostingFault>
+        // The remote end is new, and nothing was done.
+        ensures { IfOk result (λ hosted. IsNew hosted.host.end × (hosted.edge.account.deeds ≡ [])) }
+    {
         Ok(Hosted {
             alloc,
             manners,
             host: Host::new(alloc)?,
             page,
-            peers: Peers::new(alloc, manners.most_connections),
-            sessions: Sessions::new(alloc),
+            edge: Edge::new(alloc, manners.most_connections),
+            registry: Registry::new(alloc),
             console: Console::new(alloc),
-            is_console_ready: false,
             told: Vec::new(alloc),
-            count: 0,
-            refusing: Refusing::new(0, 0),
-            end: None,
-            had_session: false,
+            lifetime: Lifetime::new(),
         })
     }
 
@@ -86,10 +82,27 @@ impl Hosted {
     /// # Errors
     /// - `BadLine`: the line of this number is not a line of a page.
     /// - `Write`, `NoMemory`, `WornOut`: as [`Hosted::serve`].
-    pub fn begin<W: Surroundings>(&mut self, world: &mut W) -> Result<(), HostingFault> {
-        if self.manners.is_lenient {
-            self.hold_names(world)?;
-        }
+    pub fn begin<W: Surroundings>(&mut self, world: &mut W) -> Result<(), HostingFault>
+        // After an Ok, the host has gone on by whole steps: each input is recorded, and then all that it brings about is done, in order.
+        ensures { GoesOn self.old self.new result }
+    {
+        self.play_all(world)?;
+        Ok(())
+    }
+
+    // Plays the page lines, after `names *` if the host is lenient.
+    pub(crate) fn play_all<W: Surroundings>(&mut self, world: &mut W) -> Result<(), HostingFault>
+        ensures { OnOk result (By Plays self.old self.new) }
+    {
+        self.hold_names(world)?;
+        self.play_page(world)?;
+        Ok(())
+    }
+
+    // Plays the page lines.
+    fn play_page<W: Surroundings>(&mut self, world: &mut W) -> Result<(), HostingFault>
+        ensures { OnOk result (By Plays self.old self.new) }
+    {
         let mut number: u64 = 0;
         for place in 0..self.page.len() {
             number = number.saturating_add(1);
@@ -100,16 +113,26 @@ impl Hosted {
         Ok(())
     }
 
-    // Makes all names known, so that sessions can subscribe to those that the profile does not have.
-    fn hold_names<W: Surroundings>(&mut self, world: &mut W) -> Result<(), HostingFault> {
+    // Makes all names known if the host is lenient, so that sessions can subscribe to those that the profile does not have.
+    fn hold_names<W: Surroundings>(&mut self, world: &mut W) -> Result<(), HostingFault>
+        ensures { OnOk result (By Plays self.old self.new) }
+    {
+        if !self.manners.is_lenient {
+            return Ok(());
+        }
         match self.host.page_line(ALL_NAMES)? {
-            Some(taken) => self.deliver(world, taken),
-            None => Ok(()),
+            Some(taken) => {
+                self.deliver(world, taken)?;
+                Ok(())
+            }
+            None => Err(HostingFault::BadLine(0)),
         }
     }
 
     // Plays the page line at a place. Returns whether it is one.
-    fn play<W: Surroundings>(&mut self, world: &mut W, place: usize) -> Result<bool, HostingFault> {
+    fn play<W: Surroundings>(&mut self, world: &mut W, place: usize) -> Result<bool, HostingFault>
+        ensures { IfOk result (λ is_line. is_line ≡ true → By Plays self.old self.new) }
+    {
         let Some(line) = self.page.get(place) else {
             return Ok(true);
         };
@@ -140,7 +163,10 @@ impl Hosted {
         &mut self,
         door: &mut Door,
         world: &mut W,
-    ) -> Result<(), HostingFault> {
+    ) -> Result<(), HostingFault>
+        // After an Ok, the host has gone on by whole steps: each input is recorded, and then all that it brings about is done, in order.
+        ensures { GoesOn self.old self.new result }
+    {
         self.listen(door, world)?;
         for _ in 0..u64::MAX {
             if self.turn(door, world, None)? {
@@ -160,10 +186,13 @@ impl Hosted {
         &mut self,
         door: &mut Door,
         world: &mut W,
-    ) -> Result<(), HostingFault> {
+    ) -> Result<(), HostingFault>
+        // After an Ok, the host has gone on by whole steps: each input is recorded, and then all that it brings about is done, in order.
+        ensures { GoesOn self.old self.new result }
+    {
         let port = door.open()?;
         if self.manners.reads_input {
-            self.is_console_ready = !door.wait_for_input(world.input_fd());
+            self.console.is_ready = !door.wait_for_input(world.input_fd());
         }
         let line = format!(in self.alloc; "WebDriver BiDi listening on ws://127.0.0.1:{port}")?;
         world.note(line.as_str());
@@ -180,39 +209,42 @@ impl Hosted {
         door: &mut Door,
         world: &mut W,
         most: Option<Duration>,
-    ) -> Result<bool, HostingFault> {
+    ) -> Result<bool, HostingFault>
+        // After an Ok, the host has gone on by whole steps: each input is recorded, and then all that it brings about is done, in order.
+        ensures { GoesOn self.old self.new result }
+    {
         let now = time(world)?;
-        let next = self.peers.expire(now);
+        let next = self.edge.peers.expire(now);
         if self.has_ended(now) {
             return Ok(true);
         }
         door.wait(shorter(self.timeout(now, next), most))?;
         self.accept_all(door, world)?;
-        self.is_console_ready |= door.has_input();
+        self.console.is_ready |= door.has_input();
         for event in door.events().iter() {
-            self.peers.wake(event.token().0);
+            self.edge.peers.wake(event.token().0);
         }
         self.read_input(door, world)?;
         self.serve_ready(world)?;
         self.end_after_last(world)?;
-        self.peers.flush();
+        self.edge.peers.flush();
         Ok(false)
     }
 
     // Whether the host was told to end, and its connections have ended or have had their time.
     fn has_ended(&self, now: Instant) -> bool {
-        match self.end {
-            Some(end) => end <= now || self.peers.is_empty(),
+        match self.lifetime.end() {
+            Some(end) => end <= now || self.edge.peers.is_empty(),
             None => false,
         }
     }
 
     // The longest time to wait.
     fn timeout(&self, now: Instant, next: Option<Instant>) -> Option<Duration> {
-        if self.is_console_ready || self.peers.is_any_ready() {
+        if self.console.is_ready || self.edge.peers.is_any_ready() {
             return Some(Duration::ZERO);
         }
-        match (next, self.end) {
+        match (next, self.lifetime.end()) {
             (None, None) => None,
             (Some(next), None) => Some(next.saturating_duration_since(now)),
             (None, Some(end)) => Some(end.saturating_duration_since(now)),

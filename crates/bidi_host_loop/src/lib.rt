@@ -27,6 +27,7 @@
 //! `bidi_remote`, and the rest is tested.
 #![tactic(auto)]
 
+mod account;
 mod arrivals;
 mod bounding;
 mod calls;
@@ -34,7 +35,10 @@ mod clients;
 mod clock;
 mod console;
 mod door;
+mod edge;
+mod handing;
 mod hosting;
+mod lifetime;
 mod manners;
 mod once;
 mod outcomes;
@@ -43,9 +47,11 @@ mod page_file;
 mod pages;
 mod peers;
 mod refusing;
+mod registry;
 mod sessions;
 mod slot;
 mod surroundings;
+mod taking;
 
 pub use bidi_peer::MOST_WAITING;
 pub use door::Door;

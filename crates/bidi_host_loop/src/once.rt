@@ -1,13 +1,19 @@
 //! Ending a host after its last session.
+ghost use Rattle.std.specs.Prelude.{OnOk};
+
 use crate::hosting::Hosted;
 use crate::surroundings::Surroundings;
 use bidi_recorder::HostingFault;
 
 impl Hosted {
+    ghost use Rattle.bidi_host_loop.specs.Goes.{Rests};
+
     // Notes that there is a session, if the host ends after the last one.
-    pub(crate) fn note_session(&mut self) -> Result<(), HostingFault> {
-        if self.manners.ends_after_last && !self.had_session {
-            self.had_session = self.has_sessions()?;
+    pub(crate) fn note_session(&mut self) -> Result<(), HostingFault>
+        ensures { OnOk result (Rests self.old self.new) }
+    {
+        if self.manners.ends_after_last && !self.lifetime.had_session {
+            self.lifetime.had_session = self.has_sessions()?;
         }
         Ok(())
     }
@@ -17,8 +23,13 @@ impl Hosted {
     pub(crate) fn end_after_last<W: Surroundings>(
         &mut self,
         world: &mut W,
-    ) -> Result<(), HostingFault> {
-        if !self.had_session || self.end.is_some() || self.peers.clients() > 0 {
+    ) -> Result<(), HostingFault>
+        ensures { OnOk result (Rests self.old self.new) }
+    {
+        if !self.lifetime.had_session
+            || self.lifetime.is_ending()
+            || self.edge.peers.clients() > 0
+        {
             return Ok(());
         }
         if self.has_sessions()? {

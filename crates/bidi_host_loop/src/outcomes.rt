@@ -1,4 +1,9 @@
-//! What the lines of a test bring about, beside the messages of the remote end.
+//! What a line brings about.
+ghost use Rattle.std.specs.Prelude.{OnOk};
+ghost use Rattle.bidi_scripted.specs.View.{script_of};
+ghost use Rattle.bidi_script_lines.specs.Outcomes.{Closed, Held, outcome_of};
+ghost use Rattle.bidi_host_loop.specs.Deeds.{going_out};
+
 use crate::clock::{PATIENCE, seconds_from_now};
 use crate::hosting::Hosted;
 use crate::refusing::Refusing;
@@ -6,48 +11,52 @@ use crate::surroundings::Surroundings;
 use bidi_recorder::HostingFault;
 use bidi_script_lines::Outcome;
 use bidi_tree::JsUint;
-use std::alloc::{AllocError, Global};
 
 impl Hosted {
-    // Does what a line of a test brings about. A command that is held is reported to the pages.
+    ghost use Rattle.bidi_host_loop.specs.Goes.{Does};
+
+    // Does what a line brings about. A command that is held is reported to the pages.
     pub(crate) fn carry_out<W: Surroundings>(
         &mut self,
         world: &mut W,
         outcome: Outcome,
-    ) -> Result<(), HostingFault> {
+    ) -> Result<(), HostingFault>
+        ensures { OnOk result (Does (going_out (script_of self.old.host.end.script) (outcome_of outcome)) self.old self.new) }
+    {
         match outcome {
+            Outcome::OfMachine(sent) => self.hand_on_with_followers(world, sent),
+            Outcome::Sent(sent) => self.hand_on_all(world, sent),
             Outcome::Held(number) => self.report(world, number),
             Outcome::Bytes(conn, digits) => {
-                let bytes = bytes_of(self.alloc, digits.as_str())?;
-                Ok(self.peers.send_bytes(conn, &bytes)?)
+                Ok(self.edge.hand_bytes(self.alloc, conn, digits.as_str())?)
             }
             Outcome::Raw(conn, digits) => {
-                let bytes = bytes_of(self.alloc, digits.as_str())?;
-                Ok(self.peers.send_raw(conn, &bytes)?)
+                Ok(self.edge.hand_raw(self.alloc, conn, digits.as_str())?)
             }
             Outcome::Stalled(conn) => {
-                self.peers.stall(conn, true);
+                self.edge.stall(conn);
                 Ok(())
             }
             Outcome::Resumed(conn) => {
-                self.peers.stall(conn, false);
+                self.edge.resume(conn);
                 Ok(())
             }
             Outcome::Cut(conn) => {
-                self.sessions.forget(conn);
-                self.peers.cut(conn);
+                self.registry.sessions.forget(conn);
+                self.edge.cut(conn);
                 Ok(())
             }
             Outcome::CutAfter(conn, bytes) => {
-                self.peers.cut_after(conn, bytes);
+                self.edge.cut_after(conn, bytes);
                 Ok(())
             }
             Outcome::Closed(conn, code) => self.close_with(world, conn, code),
             Outcome::Refusing(count, status) => {
-                self.refusing = Refusing::new(count.value, status);
+                self.registry.refusing = Refusing::new(count.value, status);
+                self.edge.note_refusing(count, status);
                 Ok(())
             }
-            Outcome::OfMachine(_) | Outcome::Sent(_) | Outcome::NoEffect(_) => Ok(()),
+            Outcome::NoEffect(_) => Ok(()),
         }
     }
 
@@ -57,33 +66,22 @@ impl Hosted {
         world: &mut W,
         conn: JsUint,
         code: u16,
-    ) -> Result<(), HostingFault> {
+    ) -> Result<(), HostingFault>
+        ensures { OnOk result (Does (going_out (script_of self.old.host.end.script) (Closed conn.value code)) self.old self.new) }
+    {
         let deadline = seconds_from_now(world, PATIENCE)?;
-        self.sessions.forget(conn);
-        Ok(self.peers.close_with(conn, code, deadline)?)
+        self.registry.sessions.forget(conn);
+        Ok(self.edge.close_with(conn, code, deadline)?)
     }
 
     // Reports a command that is held to each page, and on standard output if page lines are read from standard input.
-    fn report<W: Surroundings>(&mut self, world: &mut W, number: u64) -> Result<(), HostingFault> {
+    fn report<W: Surroundings>(&mut self, world: &mut W, number: u64) -> Result<(), HostingFault>
+        ensures { OnOk result (Does (going_out (script_of self.old.host.end.script) (Held number)) self.old self.new) }
+    {
         let Some(line) = self.host.held_line(number)? else {
             return Ok(());
         };
-        self.peers.send_to_pages(line.as_str())?;
-        if !self.manners.reads_input {
-            return Ok(());
-        }
-        match world.answer(line.as_str()) {
-            Ok(()) => Ok(()),
-            Err(_) => Err(HostingFault::Answer),
-        }
-    }
-}
-
-// The bytes that pairs of hexadecimal digits stand for.
-fn bytes_of(alloc: Global, digits: &str) -> Result<Vec<u8>, AllocError> {
-    match hex::decode(alloc, digits) {
-        Ok(bytes) => Ok(bytes),
-        Err(hex::FromHexError::OutOfMemory) => Err(AllocError),
-        Err(_) => Ok(Vec::new(alloc)),
+        self.edge
+            .report(world, line.as_str(), self.manners.reads_input)
     }
 }

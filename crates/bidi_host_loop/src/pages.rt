@@ -1,12 +1,16 @@
 //! Page lines, which come on connections and from standard input, and their answers.
+ghost use Rattle.std.specs.Prelude.{[], ◌∷◌, OnOk, codes, string_bytes};
+ghost use Rattle.bidi_host_loop.specs.Deeds as deed;
+ghost use Rattle.bidi_host_loop.specs.Deeds.{Answered, Entered, EnteredBytes, SaidBytes, entering};
+ghost use Rattle.bidi_host_loop.specs.Runs.{Says};
+
 use crate::clock::{LINGER, PATIENCE, seconds_from_now};
 use crate::console::Said;
 use crate::door::Door;
 use crate::hosting::Hosted;
-use crate::refusing::Refusing;
 use crate::surroundings::Surroundings;
 use bidi_page::{no_effect, no_line};
-use bidi_recorder::{HostingFault, Recorded};
+use bidi_recorder::HostingFault;
 use bidi_remote::Sent;
 use bidi_script_lines::Outcome;
 use std::alloc::Global;
@@ -20,19 +24,9 @@ const NO_LINE: &str = "no line of a page";
 /// Why a binary message is not a page line.
 const BINARY: &str = "a message of bytes";
 
-/// What a page, or standard input, asks for.
-enum Asked {
-    /// A new browser.
-    Reset,
-    /// The end of the host.
-    End,
-    /// A step of a page, or something that is not a line.
-    Line,
-}
-
 /// The answer to a page line.
 #[derive(Drop)]
-enum Answer {
+pub(crate) enum Answer {
     /// The line had an effect.
     Done,
     /// The line did nothing: the beginning of the answer, and the reason.
@@ -58,33 +52,78 @@ impl Answer {
 }
 
 impl Hosted {
+    ghost use Rattle.bidi_host_loop.specs.Goes.{By, Does, GoesOn, Meets, Rests};
+
     // Takes lines from standard input, if there are any.
     pub(crate) fn read_input<W: Surroundings>(
         &mut self,
         door: &mut Door,
         world: &mut W,
-    ) -> Result<(), HostingFault> {
-        if !self.is_console_ready || self.end.is_some() {
+    ) -> Result<(), HostingFault>
+        ensures { GoesOn self.old self.new result }
+    {
+        if !self.console.is_ready || self.lifetime.is_ending() {
             return Ok(());
         }
         self.console.read(world)?;
-        self.is_console_ready = false;
+        self.console.is_ready = false;
+        self.take_lines(world)?;
+        self.wait_for_input(door, world)?;
+        self.close_pages_at_end(world)?;
+        Ok(())
+    }
+
+    // Takes the lines that were read from standard input, until the host is ending.
+    fn take_lines<W: Surroundings>(&mut self, world: &mut W) -> Result<(), HostingFault>
+        ensures { GoesOn self.old self.new result }
+    {
         for _ in 0..u32::MAX {
-            if self.end.is_some() {
-                break;
-            }
-            match self.console.next(self.alloc)? {
-                Said::Line(line) => self.answer_input(world, line)?,
-                Said::NoLine(reason) => self.refuse_input(world, reason)?,
-                Said::Nothing => break,
+            if self.lifetime.is_ending() || !self.take_input(world)? {
+                return Ok(());
             }
         }
+        Ok(())
+    }
+
+    // Ends the host at the end of standard input, and else waits for more of it.
+    fn wait_for_input<W: Surroundings>(
+        &mut self,
+        door: &mut Door,
+        world: &mut W,
+    ) -> Result<(), HostingFault>
+        ensures { OnOk result (Rests self.old self.new) }
+    {
         if self.console.has_ended() {
             self.begin_end(world)?;
-        } else {
-            self.is_console_ready = !door.wait_again(world.input_fd());
+            return Ok(());
         }
-        self.close_pages_at_end(world)
+        self.console.is_ready = !door.wait_again(world.input_fd());
+        Ok(())
+    }
+
+    // Takes the next line that was read from standard input. Returns whether there was one.
+    fn take_input<W: Surroundings>(&mut self, world: &mut W) -> Result<bool, HostingFault>
+        ensures { GoesOn self.old self.new result }
+    {
+        let said = self.console.next(self.alloc)?;
+        self.edge.note_entering(&said);
+        self.meet_input(world, said)
+    }
+
+    // Meets what came from standard input. Returns whether something did.
+    fn meet_input<W: Surroundings>(
+        &mut self,
+        world: &mut W,
+        said: Said,
+    ) -> Result<bool, HostingFault>
+        ensures { Meets (entering said) self.old self.new result }
+    {
+        match said {
+            Said::Line(line) => self.answer_input(world, line)?,
+            Said::NoLine(reason) => self.refuse_input(world, reason)?,
+            Said::Nothing => return Ok(false),
+        }
+        Ok(true)
     }
 
     // Takes a line from standard input, and answers it by a line on standard output.
@@ -92,10 +131,13 @@ impl Hosted {
         &mut self,
         world: &mut W,
         line: String,
-    ) -> Result<(), HostingFault> {
+    ) -> Result<(), HostingFault>
+        ensures { Meets (Entered (string_bytes line) ∷ []) self.old self.new result }
+    {
         let answer = self.page_says(world, line.as_str())?;
-        self.peers.flush();
-        answer_line(world, answer.as_str())
+        self.edge.peers.flush();
+        self.edge.answer_input(world, answer.as_str())?;
+        Ok(())
     }
 
     // Answers bytes from standard input that are not a page line.
@@ -103,9 +145,12 @@ impl Hosted {
         &mut self,
         world: &mut W,
         reason: &str,
-    ) -> Result<(), HostingFault> {
+    ) -> Result<(), HostingFault>
+        ensures { Meets (EnteredBytes ∷ []) self.old self.new result }
+    {
         let answer = Answer::because(self.alloc, NO_LINE, reason)?;
-        answer_line(world, answer.as_str())
+        self.edge.answer_input(world, answer.as_str())?;
+        Ok(())
     }
 
     // Answers a text of a page by a text, which comes after what the line caused.
@@ -114,17 +159,36 @@ impl Hosted {
         world: &mut W,
         place: usize,
         text: String,
-    ) -> Result<(), HostingFault> {
+    ) -> Result<(), HostingFault>
+        ensures { Meets (deed.Said place (string_bytes text) ∷ []) self.old self.new result }
+    {
         let answer = self.page_says(world, text.as_str())?;
-        self.peers.flush();
-        self.peers.send_to(place, answer.as_str())?;
-        self.close_pages_at_end(world)
+        self.answer_at(world, place, answer.as_str())?;
+        Ok(())
+    }
+
+    // Answers the page at a place, after what waits, and closes it if the host is ending.
+    fn answer_at<W: Surroundings>(
+        &mut self,
+        world: &mut W,
+        place: usize,
+        answer: &str,
+    ) -> Result<(), HostingFault>
+        ensures { OnOk result (Does (Answered place answer.now ∷ []) self.old self.new) }
+    {
+        self.edge.peers.flush();
+        self.edge.answer(place, answer)?;
+        self.close_pages_at_end(world)?;
+        Ok(())
     }
 
     // Answers a binary message of a page by a text.
-    pub(crate) fn refuse_bytes(&mut self, place: usize) -> Result<(), HostingFault> {
+    pub(crate) fn refuse_bytes(&mut self, place: usize) -> Result<(), HostingFault>
+        ensures { Meets (SaidBytes place ∷ []) self.old self.new result }
+    {
         let answer = Answer::because(self.alloc, NO_LINE, BINARY)?;
-        Ok(self.peers.send_to(place, answer.as_str())?)
+        self.edge.answer(place, answer.as_str())?;
+        Ok(())
     }
 
     // Does what a page, or standard input, says. Returns the answer.
@@ -132,40 +196,39 @@ impl Hosted {
         &mut self,
         world: &mut W,
         text: &str,
-    ) -> Result<Answer, HostingFault> {
-        match asked_for(text) {
-            Asked::Reset => {
-                self.reset(world)?;
-                Ok(Answer::Done)
+    ) -> Result<Answer, HostingFault>
+        ensures { OnOk result (By (Says text.now) self.old self.new) }
+    {
+        if text == "reset" {
+            self.reset(world)?;
+            return Ok(Answer::Done);
+        }
+        if text == "end" {
+            self.begin_end(world)?;
+            return Ok(Answer::Done);
+        }
+        self.line_is_said(world, text)
+    }
+
+    // Takes a text that is neither `reset` nor `end`. Returns the answer.
+    fn line_is_said<W: Surroundings>(
+        &mut self,
+        world: &mut W,
+        text: &str,
+    ) -> Result<Answer, HostingFault>
+        ensures { OnOk result (By (Says text.now) self.old self.new) }
+    {
+        match self.says_line(world, text)? {
+            Some(answer) => Ok(answer),
+            None => {
+                let reason = no_line(self.alloc, text)?;
+                Answer::because(self.alloc, NO_LINE, reason.as_str())
             }
-            Asked::End => {
-                self.begin_end(world)?;
-                Ok(Answer::Done)
-            }
-            Asked::Line => match self.host.page_line(text)? {
-                Some(taken) => self.deliver_page(world, text, taken),
-                None => {
-                    let reason = no_line(self.alloc, text)?;
-                    Answer::because(self.alloc, NO_LINE, reason.as_str())
-                }
-            },
         }
     }
 
-    // Sends what a page's line caused. Returns the answer.
-    fn deliver_page<W: Surroundings>(
-        &mut self,
-        world: &mut W,
-        line: &str,
-        taken: Recorded,
-    ) -> Result<Answer, HostingFault> {
-        let answer = self.answer_for(line, &taken.outcome)?;
-        self.deliver(world, taken)?;
-        Ok(answer)
-    }
-
     // The answer to a page's line with this outcome.
-    fn answer_for(&self, line: &str, outcome: &Outcome) -> Result<Answer, HostingFault> {
+    pub(crate) fn answer_for(&self, line: &str, outcome: &Outcome) -> Result<Answer, HostingFault> {
         match outcome {
             Outcome::OfMachine(sent) if has_no_effect(sent) => {
                 let reason = no_effect(self.alloc, self.host.remote_end(), line)?;
@@ -178,23 +241,34 @@ impl Hosted {
 
     // Makes a new browser: closes each connection of the remote end, continues the record in the
     // next file, and plays the page lines again.
-    fn reset<W: Surroundings>(&mut self, world: &mut W) -> Result<(), HostingFault> {
-        let deadline = seconds_from_now(world, PATIENCE)?;
-        self.peers.close_all(false, deadline)?;
-        self.sessions.clear();
+    fn reset<W: Surroundings>(&mut self, world: &mut W) -> Result<(), HostingFault>
+        ensures { OnOk result (By (Says (codes "reset")) self.old self.new) }
+    {
+        self.close_clients(world)?;
         self.host.reset()?;
-        self.count = 0;
-        self.refusing = Refusing::new(0, 0);
-        self.had_session = false;
-        world.next_record()?;
-        self.begin(world)
+        self.edge.restart(world)?;
+        self.play_all(world)?;
+        Ok(())
+    }
+
+    // Closes each connection of the remote end, because the browser is to be a new one.
+    fn close_clients<W: Surroundings>(&mut self, world: &mut W) -> Result<(), HostingFault>
+        ensures { OnOk result (Rests self.old self.new) }
+    {
+        let deadline = seconds_from_now(world, PATIENCE)?;
+        self.edge.peers.close_all(false, deadline)?;
+        self.registry.clear();
+        self.lifetime.had_session = false;
+        Ok(())
     }
 
     // Begins to end the host: closes each connection of the remote end.
-    pub(crate) fn begin_end<W: Surroundings>(&mut self, world: &mut W) -> Result<(), HostingFault> {
+    pub(crate) fn begin_end<W: Surroundings>(&mut self, world: &mut W) -> Result<(), HostingFault>
+        ensures { OnOk result (Rests self.old self.new) }
+    {
         let end = seconds_from_now(world, LINGER)?;
-        self.end = end;
-        self.peers.close_all(false, end)?;
+        self.lifetime.end_at(end);
+        self.edge.peers.close_all(false, end)?;
         Ok(())
     }
 
@@ -202,31 +276,14 @@ impl Hosted {
     pub(crate) fn close_pages_at_end<W: Surroundings>(
         &mut self,
         world: &mut W,
-    ) -> Result<(), HostingFault> {
-        if self.end.is_some() {
+    ) -> Result<(), HostingFault>
+        ensures { OnOk result (Rests self.old self.new) }
+    {
+        if self.lifetime.is_ending() {
             let end = seconds_from_now(world, LINGER)?;
-            self.peers.close_all(true, end)?;
+            self.edge.peers.close_all(true, end)?;
         }
         Ok(())
-    }
-}
-
-// Writes a line to standard output.
-fn answer_line<W: Surroundings>(world: &mut W, line: &str) -> Result<(), HostingFault> {
-    match world.answer(line) {
-        Ok(()) => Ok(()),
-        Err(_) => Err(HostingFault::Answer),
-    }
-}
-
-// Finds out what a text of a page asks for.
-fn asked_for(text: &str) -> Asked {
-    if text == "reset" {
-        Asked::Reset
-    } else if text == "end" {
-        Asked::End
-    } else {
-        Asked::Line
     }
 }
 

@@ -1,4 +1,7 @@
 //! The connections that are held, each at a place of its own.
+ghost use Rattle.std.specs.Prelude.{◌≡◌, OnOk};
+ghost use Rattle.bidi_host_loop.specs.Clients.{HandsIn};
+
 use crate::bounding::held_at;
 use crate::clock::earlier;
 use crate::own::Own;
@@ -31,6 +34,8 @@ pub(crate) struct Peers {
 }
 
 impl Peers {
+    ghost use Rattle.bidi_host_loop.specs.Clients.{Hands, HandsAt, place_of};
+
     /// Makes an empty collection with at most so many places. Takes no memory.
     pub(crate) fn new(alloc: Global, most: usize) -> Peers {
         Peers {
@@ -204,19 +209,33 @@ impl Peers {
     }
 
     /// Queues a text for the connection at a place.
-    pub(crate) fn send_to(&mut self, place: usize, text: &str) -> Result<(), AllocError> {
+    pub(crate) fn send_to(&mut self, place: usize, text: &str) -> Result<(), AllocError>
+        ensures { OnOk result (HandsAt place text.now self.old self.new) }
+    {
         self.hold_payload(text.len());
         match self.slots.get_mut(place) {
-            Some(Some(slot)) => slot.send(text),
-            _ => Ok(()),
+            Some(there) => {
+                send_in(there, text)?;
+                Ok(())
+            }
+            None => Ok(()),
         }
     }
 
     /// Queues a text for the connection with a number, if it is held, or keeps it if the connection is the host's own.
-    pub(crate) fn send(&mut self, conn: JsUint, text: &str) -> Result<(), AllocError> {
-        if let Some(place) = self.place_of(conn) {
-            return self.send_to(place, text);
-        }
+    pub(crate) fn send(&mut self, conn: JsUint, text: &str) -> Result<(), AllocError>
+        ensures { OnOk result (Hands conn.value text.now self.old self.new) }
+    {
+        let Some(place) = self.place_of(conn) else {
+            self.keep_own(conn, text)?;
+            return Ok(());
+        };
+        self.send_to(place, text)?;
+        Ok(())
+    }
+
+    // Keeps a text for the host's own connection, if it is for that.
+    fn keep_own(&mut self, conn: JsUint, text: &str) -> Result<(), AllocError> {
         match &mut self.own {
             Some(own) => own.keep(conn, text),
             None => Ok(()),
@@ -266,7 +285,9 @@ impl Peers {
     }
 
     // The place of the connection with a number.
-    fn place_of(&self, conn: JsUint) -> Option<usize> {
+    fn place_of(&self, conn: JsUint) -> Option<usize>
+        ensures { result ≡ place_of conn.value self.now }
+    {
         let route = self.routes.iter().find(|route| route.conn == conn.value)?;
         Some(route.place)
     }
@@ -411,6 +432,19 @@ impl Peers {
             }
         }
         next
+    }
+}
+
+// Queues a text for what is held at a place.
+fn send_in(there: &mut Option<Slot>, text: &str) -> Result<(), AllocError>
+    ensures { OnOk result (HandsIn text.now there.old there.new) }
+{
+    match there {
+        Some(slot) => {
+            slot.send(text)?;
+            Ok(())
+        }
+        None => Ok(()),
     }
 }
 

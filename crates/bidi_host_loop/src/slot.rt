@@ -1,4 +1,7 @@
 //! A connection that is held.
+ghost use Rattle.std.specs.Prelude.{◌≡◌, None, OnOk};
+ghost use Rattle.bidi_host_loop.specs.Clients.{HandsOn};
+
 use bidi_peer::{Came, ClosingCause, Peer};
 use bidi_tree::JsUint;
 use mio::net::TcpStream;
@@ -167,7 +170,9 @@ impl Slot {
     }
 
     /// Queues a text.
-    pub(crate) fn send(&mut self, text: &str) -> Result<(), AllocError> {
+    pub(crate) fn send(&mut self, text: &str) -> Result<(), AllocError>
+        ensures { OnOk result (self.old.cut_after ≡ None → HandsOn text.now self.old.peer self.new.peer) }
+    {
         self.is_due = true;
         match self.cut_after.take() {
             None => self.peer.send(text)?,

@@ -1,0 +1,6 @@
+use Rattle.bidi_host_loop.specs.Goes.{By}
+use Rattle.bidi_host_loop.specs.Runs.{Plays}
+use Rattle.bidi_host_loop.proofs.hosting.Hosted.play_page.Given as goal
+
+abbrev pub invariant-loop-place : goal.invariant-loop-place
+invariant-loop-place g l = By Plays l.initial.self l.self

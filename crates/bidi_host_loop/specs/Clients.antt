@@ -1,0 +1,42 @@
+-- Which connection has which peer, and what it means that a text is handed to it. Defined by this project.
+use Rattle.std.specs.Prelude.{◌≡◌, ◌≢◌, ◌==◌, ℕ, List, ◌++◌, slice_get, find, Option, Some, None, option_map, option_and_then, ⊤}
+use Rattle.bidi_peer.specs.Sending.{text_frame}
+use Rattle.bidi_peer.specs.Waiting.{unwritten}
+use Rattle.bidi_peer.specs.declared.standing.Peer.{Peer}
+use Rattle.bidi_peer.specs.declared.standing.State.TheVariants.{Open}
+use Rattle.bidi_host_loop.specs.declared.peers.Peers.{Peers}
+use Rattle.bidi_host_loop.specs.declared.peers.Route.{Route}
+use Rattle.bidi_host_loop.specs.declared.slot.Slot.{Slot}
+
+-- the place of the connection of the remote end with a number
+abbrev pub place_of : ℕ → Peers → Option ℕ
+place_of conn peers = option_map (λ r. r.place) (find (λ r. r.conn == conn) peers.routes.items)
+
+-- the connection that is held at a place
+abbrev pub slot_at : ℕ → Peers → Option Slot
+slot_at place peers = option_and_then (λ slot. slot) (slice_get peers.slots.items place)
+
+-- A peer that is not open does not change. One that is open and stays so has the frame of the text behind all that waited to be written, of which
+-- the stream took a beginning.
+pub record HandsOn {S : Type 0} (text : List ℕ) (old new : Peer S) : Type 0 where
+  pub is_not_open : old.state ≢ Open → new ≡ old
+  pub is_open : old.state ≡ Open → new.state ≡ Open → (went : List ℕ) × (unwritten old.outbox ++ text_frame text ≡ went ++ unwritten new.outbox)
+
+-- The text is handed to the peer of what is held at a place, unless a test has it cut in this message.
+abbrev pub HandsIn : List ℕ → Option Slot → Option Slot → Type 0
+HandsIn text (Some old) (Some new) = old.cut_after ≡ None → HandsOn text old.peer new.peer
+HandsIn text (Some old) None = ⊥
+HandsIn text None new = ⊤
+
+-- The text is handed to the peer at a place.
+abbrev pub HandsAt : ℕ → List ℕ → Peers → Peers → Type 0
+HandsAt place text old new = HandsIn text (slot_at place old) (slot_at place new)
+
+-- The text is handed to the peer at a place, if there is one.
+abbrev pub HandsTo : Option ℕ → List ℕ → Peers → Peers → Type 0
+HandsTo (Some place) text old new = HandsAt place text old new
+HandsTo None text old new = ⊤
+
+-- The text is handed to the peer of the connection with a number, if one is held.
+abbrev pub Hands : ℕ → List ℕ → Peers → Peers → Type 0
+Hands conn text old new = HandsTo (place_of conn old) text old new

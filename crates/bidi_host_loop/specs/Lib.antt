@@ -1,0 +1,4 @@
+pub mod Deeds
+pub mod Runs
+pub mod Goes
+pub mod Clients
