@@ -1,0 +1,6 @@
+pub mod LevelLemmas
+pub mod ExactLemmas
+pub mod JudgeLemmas
+pub mod TableLemmas
+pub mod ListsLemmas
+pub mod SourceLemmas

@@ -1,0 +1,22 @@
+-- The term at a place of a table, and what its numbers are.
+use Rattle.std.proofs.Common.{◌≡◌, ◌∙◌, ◌≤◌, ◌<◌, ◌+◌, ℕ, List, ◌∷◌, true, Option, Some, None, ap, subst, sym, length, map, get_or, drop, ltb-true}
+use Rattle.std.proofs.Math.Seq.{drop-cons}
+use Rattle.std.proofs.lemmas.Bool.{and_parts}
+use Rattle.std.proofs.lemmas.List.{get_or-map, length-map}
+use Rattle.std.specs.Prelude.{nat_lt}
+use Rattle.bidi_grammar.specs.Term.{Term, nothing, term_at}
+use Rattle.bidi_grammar.specs.View.{term_of, row_of, table, is_grounded, IsGrounded, rows_are_within}
+use Rattle.bidi_grammar.specs.declared.term.Term as code
+use Rattle.bidi_grammar.specs.declared.term.Row as code_row
+
+pub term_here : (xs : List code.Term) (n : ℕ) (x : code.Term) → n < length xs → x ≡ get_or xs n x → term_at (table xs) n ≡ term_of x
+term_here xs n x few at = get_or-map term_of xs n x nothing few ∙ ap term_of (sym at)
+
+pub grounded_here : (xs : List code.Term) (n : ℕ) (τ : Term) → IsGrounded (table xs) → n < length xs → term_at (table xs) n ≡ τ → is_grounded (length xs) n τ ≡ true
+grounded_here xs n τ h few e =
+    let long : length (table xs) ≡ length xs = length-map xs term_of in
+    let some : n < length (table xs) = rw long few in
+    subst (λ σ. is_grounded (length xs) n σ ≡ true) e (subst (λ k. is_grounded k n (term_at (table xs) n) ≡ true) long (h.1 n some))
+
+pub few_terms : (xs : List code.Term) → IsGrounded (table xs) → length xs ≤ 65536
+few_terms xs h = subst (λ k. k ≤ 65536) (length-map xs term_of) h.0
