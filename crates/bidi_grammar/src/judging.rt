@@ -4,15 +4,15 @@ ghost use Rattle.std.specs.List.{list_any};
 ghost use Rattle.std.specs.Str.{bytes_eq};
 ghost use Rattle.json.specs.Find.{as_object};
 ghost use Rattle.json.specs.Value.{items_view, members_view, value_view};
-ghost use Rattle.bidi_grammar.specs.Fits.{Fits, is_plain, takes, without};
+ghost use Rattle.bidi_grammar.specs.Fits.{Fits, takes, without};
 ghost use Rattle.bidi_grammar.specs.Judges.{Judges, ItemsJudge, PartsJudge, RowsJudge, OthersJudge, gave_up, no_left};
 ghost use Rattle.bidi_grammar.specs.Term as cddl;
 ghost use Rattle.bidi_grammar.specs.Term.{names_of, term_at};
-ghost use Rattle.bidi_grammar.specs.View.{IsGrounded, Judged, answer_of, are_within, draft_of, rest_is_within, row_of, rows_are_within, table};
+ghost use Rattle.bidi_grammar.specs.View.{IsGrounded, Judged, answer_of, are_within, draft_of, is_grounded, rest_is_within, row_of, rows_are_within, table, term_of};
 
 use crate::draft::{Draft, Look, tags_with};
 use crate::reason::{PathStep, Verdict};
-use crate::taking::{as_items, as_members, is_plain, takes};
+use crate::taking::{as_items, as_members, takes};
 use crate::term::{Need, Row, Term};
 use json::Value;
 use std::alloc::{AllocError, Global};
@@ -59,10 +59,10 @@ pub fn judge<'a, 'b>(
 ///
 /// # Errors
 /// No memory: an allocation failed.
-pub fn fits(
+pub fn fits<'a, 'b>(
     alloc: Global,
-    terms: &[Term],
-    value: &Value<'_>,
+    terms: &'a [Term],
+    value: &'a Value<'b>,
     n: usize,
     looks: u64,
 ) -> Result<Option<bool>, AllocError>
@@ -102,17 +102,15 @@ fn judge_term<'a, 'b>(
     if looks == 0 {
         return Ok(Look::Over);
     }
-    if !takes(value, &terms[n]) {
+    let term = &terms[n];
+    if !takes(value, term) {
         draft.set_here(value, n);
         return Ok(Look::No(looks - 1));
     }
-    if is_plain(&terms[n]) {
-        return Ok(Look::Yes(looks - 1));
-    }
-    judge_inside(alloc, terms, value, n, looks - 1, draft)
+    judge_inside(alloc, terms, value, n, term, looks - 1, draft)
 }
 
-// The same of a value that the term takes, where the term names others.
+// The same of a value that the term at a place takes.
 #[tactic(none)]
 #[cycle(judge)]
 fn judge_inside<'a, 'b>(
@@ -120,16 +118,25 @@ fn judge_inside<'a, 'b>(
     terms: &'a [Term],
     value: &'a Value<'b>,
     n: usize,
+    term: &'a Term,
     looks: u64,
     draft: &mut Draft<'a, 'b>,
 ) -> Result<Look, AllocError>
     requires grounded { IsGrounded (table terms.now) }
     requires there { n < length terms.now }
-    requires taken { takes (value_view value.now) (term_at (table terms.now) n) ≡ true }
-    requires inner { is_plain (term_at (table terms.now) n) ≡ false }
-    ensures { IfOk result (λ a. Judges (table terms.now) (suc looks) (value_view value.now) n (term_at (table terms.now) n) (answer_of a draft.new)) }
+    requires inner { is_grounded (length terms.now) n (term_of term.now) ≡ true }
+    requires taken { takes (value_view value.now) (term_of term.now) ≡ true }
+    ensures { IfOk result (λ a. Judges (table terms.now) (suc looks) (value_view value.now) n (term_of term.now) (answer_of a draft.new)) }
 {
-    match &terms[n] {
+    match term {
+        Term::Exactly(_) => Ok(Look::Yes(looks)),
+        Term::Text => Ok(Look::Yes(looks)),
+        Term::Bool => Ok(Look::Yes(looks)),
+        Term::Truth(_) => Ok(Look::Yes(looks)),
+        Term::Null => Ok(Look::Yes(looks)),
+        Term::Whole(_, _) => Ok(Look::Yes(looks)),
+        Term::Number(_, _) => Ok(Look::Yes(looks)),
+        Term::Any => Ok(Look::Yes(looks)),
         Term::ListOf(_, item) => match as_items(value) {
             Some(items) => judge_items(alloc, terms, items, *item, looks, draft),
             None => unreachable!(),
@@ -146,7 +153,6 @@ fn judge_inside<'a, 'b>(
             judge_either(alloc, terms, value, n, *first, *second, looks, draft)
         }
         Term::Rule(_, rule) => judge_rule(alloc, terms, value, n, *rule, looks, draft),
-        _ => unreachable!(),
     }
 }
 
@@ -166,11 +172,14 @@ fn judge_rule<'a, 'b>(
     requires there { rule < length terms.now }
     ensures { (name : List ℕ) → IfOk result (λ a. Judges (table terms.now) (suc looks) (value_view value.now) n (cddl.rule name rule) (answer_of a draft.new)) }
 {
-    let look = judge_term(alloc, terms, value, rule, looks, draft)?;
-    if let Look::No(_) = look {
-        draft.set_name(n);
+    match judge_term(alloc, terms, value, rule, looks, draft)? {
+        Look::Yes(left) => Ok(Look::Yes(left)),
+        Look::Over => Ok(Look::Over),
+        Look::No(left) => {
+            draft.set_name(n);
+            Ok(Look::No(left))
+        }
     }
-    Ok(look)
 }
 
 // Judges a value by a choice of two terms.
@@ -312,21 +321,22 @@ fn judge_rows<'a, 'b>(
     let mut left = looks;
     let mut tags = 0;
     'rows: for row in rows {
-        match value.get(&row.name) {
+        let name = row.name.as_str();
+        match value.get(name) {
             Some(member) => match judge_term(alloc, terms, member, row.term, left, draft)? {
                 Look::Yes(after) => {
                     left = after;
-                    tags = tags_with(tags, &row.name);
+                    tags = tags_with(tags, name);
                 }
                 Look::No(after) => {
-                    draft.go_under(alloc, tags, PathStep::Member(&row.name))?;
+                    draft.go_under(alloc, tags, PathStep::Member(name))?;
                     return Ok(Look::No(after));
                 }
                 Look::Over => return Ok(Look::Over),
             },
             None => match row.need {
                 Need::Required => {
-                    draft.set_missing(tags, &row.name, row.term);
+                    draft.set_missing(tags, name, row.term);
                     return Ok(Look::No(left));
                 }
                 Need::Optional => {}

@@ -1,6 +1,6 @@
 //! Whether a value itself, whatever stands in it, is one that a term takes.
 ghost use Rattle.std.specs.Prelude.{◌≡◌, option_map};
-ghost use Rattle.bidi_grammar.specs.Fits.{is_plain, same_truth, takes};
+ghost use Rattle.bidi_grammar.specs.Fits.{same_truth, takes};
 ghost use Rattle.bidi_grammar.specs.View.{term_of};
 ghost use Rattle.json.specs.Find.{as_array, as_object};
 ghost use Rattle.json.specs.Value.{items_view, members_view, value_view};
@@ -53,16 +53,6 @@ fn is_same_truth(truth: bool, found: bool) -> bool
     ensures { result ≡ same_truth truth found }
 {
     if truth { found } else { !found }
-}
-
-// Whether a term names no other.
-pub(crate) fn is_plain(term: &Term) -> bool
-    ensures { result ≡ is_plain (term_of term.now) }
-{
-    match term {
-        Term::ListOf(_, _) | Term::TupleOf(_) | Term::MapOf(_, _) | Term::Either(_, _) | Term::Rule(_, _) => false,
-        _ => true,
-    }
 }
 
 // The items of a value that is an array.
