@@ -1,5 +1,5 @@
 -- What judging a value ends with, by what judging its parts does.
-use Rattle.std.proofs.Common.{◌≡◌, ◌∙◌, ◌≤◌, ◌<◌, ◌+◌, ◌-◌, ℕ, suc, List, [], ◌∷◌, Bool, true, false, Option, Some, None, refl, ap, subst, sym, arith, length, map, get_or, drop, ltb-true}
+use Rattle.std.proofs.Common.{◌≡◌, ◌∙◌, ◌≤◌, ◌<◌, ◌+◌, ◌-◌, ℕ, zero, suc, List, [], ◌∷◌, Bool, true, false, Option, Some, None, refl, ap, subst, sym, arith, length, map, get_or, drop, ltb-true}
 use Rattle.std.proofs.Math.Seq.{drop-cons}
 use Rattle.std.proofs.lemmas.Bool.{and_parts}
 use Rattle.std.proofs.lemmas.Bool.{eqb-true}
@@ -43,11 +43,15 @@ rows_within_at size rows i r few at h =
     let p = and_parts (nat_lt r.term size) (rows_are_within size (map row_of (drop (i + 1) rows))) (ap (rows_are_within size) (sym (row_at rows i r few at)) ∙ h) in
     (ltb-true r.term size p.0, p.1)
 
--- a place among places of the table is one
-pub within_at : (size : ℕ) (ns : List ℕ) (i n : ℕ) → i < length ns → n ≡ get_or ns i n → are_within size ns ≡ true → n < size
-within_at size [] i n few at h = absurd (omega (arith, few))
-within_at size (m ∷ ns) 0 n few at h = let p = and_parts (nat_lt m size) (are_within size ns) h in subst (λ k. k < size) (sym at) (ltb-true m size p.0)
-within_at size (m ∷ ns) (suc i) n few at h = let p = and_parts (nat_lt m size) (are_within size ns) h in within_at size ns i n (omega (arith, few)) at p.1
+-- the number at a place, and those after it
+pub number_at : (ns : List ℕ) (i : ℕ) → i < length ns → drop i ns ≡ get_or ns i 0 ∷ drop (i + 1) ns
+number_at ns i few = let next : suc i ≡ i + 1 = omega arith in drop-cons ns i 0 few ∙ ap (λ j. get_or ns i 0 ∷ drop j ns) next
+
+-- one of some places of the table is a place of the table
+pub within_at : (size : ℕ) (ns : List ℕ) (i : ℕ) → i < length ns → are_within size ns ≡ true → get_or ns i 0 < size
+within_at size [] i few h = absurd (omega (arith, few))
+within_at size (m ∷ ns) zero few h = let p = and_parts (nat_lt m size) (are_within size ns) h in ltb-true m size p.0
+within_at size (m ∷ ns) (suc i) few h = let p = and_parts (nat_lt m size) (are_within size ns) h in within_at size ns i (omega (arith, few)) p.1
 
 -- ---- further members
 
@@ -123,5 +127,5 @@ same_long t ns xs h is =
 
 -- one look less
 pub one_less : (k : ℕ) → (k ≡ 0 → ⊥) → suc (k - 1) ≡ k
-one_less 0 f = absurd (f refl)
+one_less zero f = absurd (f refl)
 one_less (suc k) f = omega arith

@@ -85,7 +85,6 @@ pub fn fits<'a, 'b>(
 }
 
 // Judges a value by a term; where it does not fit, the draft has the reason.
-#[tactic(none)]
 #[cycle(judge)]
 fn judge_term<'a, 'b>(
     alloc: Global,
@@ -111,7 +110,6 @@ fn judge_term<'a, 'b>(
 }
 
 // The same of a value that the term at a place takes.
-#[tactic(none)]
 #[cycle(judge)]
 fn judge_inside<'a, 'b>(
     alloc: Global,
@@ -157,7 +155,6 @@ fn judge_inside<'a, 'b>(
 }
 
 // Judges a value by a rule.
-#[tactic(none)]
 #[cycle(judge)]
 fn judge_rule<'a, 'b>(
     alloc: Global,
@@ -183,7 +180,6 @@ fn judge_rule<'a, 'b>(
 }
 
 // Judges a value by a choice of two terms.
-#[tactic(none)]
 #[cycle(judge)]
 fn judge_either<'a, 'b>(
     alloc: Global,
@@ -208,7 +204,6 @@ fn judge_either<'a, 'b>(
 }
 
 // Judges a value by the second of two terms; the draft has the reason against the first.
-#[tactic(none)]
 #[cycle(judge)]
 fn judge_second<'a, 'b>(
     alloc: Global,
@@ -238,7 +233,6 @@ fn judge_second<'a, 'b>(
 }
 
 // Judges some items by a term; the draft has the reason against the first that does not fit.
-#[tactic(none)]
 #[cycle(judge)]
 fn judge_items<'a, 'b>(
     alloc: Global,
@@ -267,7 +261,6 @@ fn judge_items<'a, 'b>(
 }
 
 // Judges some items, each by a term of its own.
-#[tactic(none)]
 #[cycle(judge)]
 fn judge_parts<'a, 'b>(
     alloc: Global,
@@ -297,7 +290,6 @@ fn judge_parts<'a, 'b>(
 }
 
 // Judges an object by rows, and its other members by a term.
-#[tactic(none)]
 #[cycle(judge)]
 fn judge_rows<'a, 'b>(
     alloc: Global,
@@ -347,7 +339,6 @@ fn judge_rows<'a, 'b>(
 }
 
 // Judges the members that no row names.
-#[tactic(none)]
 #[cycle(judge)]
 fn judge_others<'a, 'b>(
     alloc: Global,

@@ -19,7 +19,7 @@ use Rattle.bidi_grammar.specs.Judges.{RowsJudge, at_row, row_met, is_absent, row
 use Rattle.bidi_grammar.specs.View.{answer_of, are_within, draft_of, is_grounded, need_of, rest_is_within, row_of, rows_are_within, table, term_of}
 use Rattle.bidi_grammar.proofs.LevelLemmas.{levels, items_levels, members_levels, levels-get, array_levels, object_levels}
 use Rattle.bidi_grammar.proofs.TableLemmas.{term_here, grounded_here, few_terms}
-use Rattle.bidi_grammar.proofs.JudgeLemmas.{nth, item_here, row_at, rows_within_at, within_at, other_kept, other_gone, more_tags, plain_judged, list_judged, tuple_judged, map_judged, row_missing, same_long, one_less}
+use Rattle.bidi_grammar.proofs.JudgeLemmas.{nth, number_at, item_here, row_at, rows_within_at, within_at, other_kept, other_gone, more_tags, plain_judged, list_judged, tuple_judged, map_judged, row_missing, same_long, one_less}
 use Rattle.bidi_grammar.proofs.judging.+judge.Goals as goal
 use Rattle.bidi_grammar.proofs.judging.+judge.Goals.{judge_rows-in-Some+in_ok-after-in-Some+in-Yes, judge_rows-in-None+in-Optional}
 
@@ -385,7 +385,7 @@ judge_parts-judge_term-requires t c =
     let here = item_here xs i c.index-items-i.result inside c.index-items-i.is in
     let less = ap items_levels here in
     let few = few_terms c.args.terms.now c.requires.grounded in
-    let low = within_at (length c.args.terms.now) ns i c.index-parts-i.result (omega (arith, inside, c.requires.same)) c.index-parts-i.is c.requires.parts in
+    let low = within_at (length c.args.terms.now) ns i (omega (arith, inside, c.requires.same)) c.requires.parts in
     (omega (arith, less, few, c.items.invariant.fewer, low), (c.requires.grounded, low))
 
 pub judge_parts-returns-in-No : goal.judge_parts-returns-in-No
@@ -394,14 +394,14 @@ judge_parts-returns-in-No t c =
     let xs = c.args.items.now in
     let ns = c.args.parts.now in
     let i = c.items.i in
-    let n = c.index-parts-i.result in
+    let n = get_or ns i 0 in
     let k = c.items.left in
     let x = c.index-items-i.result in
     let r = draft_of c.judge_term.new.draft in
     let left = c.in-No.after in
     let inside : i < length xs = omega (arith, c.items-test.true, c.items.auto.i-end) in
     let here = item_here xs i x inside c.index-items-i.is in
-    let part = nth ns i n (omega (arith, inside, c.requires.same)) c.index-parts-i.is in
+    let part = number_at ns i (omega (arith, inside, c.requires.same)) in
     let j : Judges g k (value_view x) n (term_at g n) (no_left left r) = subst (λ a. Judges g k (value_view x) n (term_at g n) (answer_of a c.judge_term.new.draft)) c.in-No.is c.in_ok-after.ensures in
     let it = no_left left (under 0 (step.item i) r) in
     let said : draft_of c.go_under.new.self ≡ under 0 (step.item i) r = c.in_ok-go_under-in-No.ensures in
@@ -415,12 +415,12 @@ judge_parts-returns-in-Over t c =
     let xs = c.args.items.now in
     let ns = c.args.parts.now in
     let i = c.items.i in
-    let n = c.index-parts-i.result in
+    let n = get_or ns i 0 in
     let k = c.items.left in
     let x = c.index-items-i.result in
     let inside : i < length xs = omega (arith, c.items-test.true, c.items.auto.i-end) in
     let here = item_here xs i x inside c.index-items-i.is in
-    let part = nth ns i n (omega (arith, inside, c.requires.same)) c.index-parts-i.is in
+    let part = number_at ns i (omega (arith, inside, c.requires.same)) in
     let j : Judges g k (value_view x) n (term_at g n) gave_up = subst (λ a. Judges g k (value_view x) n (term_at g n) (answer_of a c.judge_term.new.draft)) c.in-Over.is c.in_ok-after.ensures in
     c.items.invariant.so_far gave_up (subst (λ ts. PartsJudge g k i ts (drop i ns) gave_up) (sym here) (subst (λ ms. PartsJudge g k i (json.item (value_view x) (items_view (drop (i + 1) xs))) ms gave_up) (sym part)
     (at_part k i (value_view x) (items_view (drop (i + 1) xs)) n (drop (i + 1) ns) gave_up j refl)))
@@ -431,13 +431,13 @@ judge_parts-items-preserved t c =
     let xs = c.args.items.now in
     let ns = c.args.parts.now in
     let i = c.items.i in
-    let n = c.index-parts-i.result in
+    let n = get_or ns i 0 in
     let k = c.items.left in
     let x = c.index-items-i.result in
     let left = c.in-Yes.after in
     let inside : i < length xs = omega (arith, c.items-test.true, c.items.auto.i-end) in
     let here = item_here xs i x inside c.index-items-i.is in
-    let part = nth ns i n (omega (arith, inside, c.requires.same)) c.index-parts-i.is in
+    let part = number_at ns i (omega (arith, inside, c.requires.same)) in
     let j : Judges g k (value_view x) n (term_at g n) (yes_left left) = subst (λ a. Judges g k (value_view x) n (term_at g n) (answer_of a c.judge_term.new.draft)) c.in-Yes.is c.in_ok-after.ensures in
     let less = ap items_levels here in
     record {
@@ -467,7 +467,7 @@ judge_rows-judge_term-requires t c =
     let u = value_view c.args.value.now in
     let v = value_view c.in-Some.member.now in
     let r = c.row-item.result in
-    let name : c.as_str.result.now ≡ string_bytes r.name = search rules in
+    let name : c.as_str-name.result.now ≡ string_bytes r.name = search rules in
     let found : get (string_bytes r.name) u ≡ Some v = subst (λ k. get k u ≡ Some v) name (sym c.in-Some.ensures) in
     let within = rows_within_at (length xs) c.args.rows.now c.rows.row-index r (omega (arith, c.rows-test.true)) c.row-item.is c.rows.invariant.within in
     let low = within.0 in
@@ -491,7 +491,7 @@ judge_rows-returns-in-No t c =
     let tags = c.rows.tags in
     let b = draft_of c.judge_term.new.draft in
     let left = c.in-No.after in
-    let name : c.as_str.result.now ≡ s = search rules in
+    let name : c.as_str-name.result.now ≡ s = search rules in
     let found : get s u ≡ Some v = subst (λ x. get x u ≡ Some v) name (sym c.in-Some.ensures) in
     let here = row_at rows i r (omega (arith, c.rows-test.true)) c.row-item.is in
     let j : Judges g k v n (term_at g n) (no_left left b) = subst (λ a. Judges g k v n (term_at g n) (answer_of a c.judge_term.new.draft)) c.in-No.is c.in_ok-after-in-Some.ensures in
@@ -515,7 +515,7 @@ judge_rows-returns-in-Over t c =
     let rest = c.args.rest.now in
     let others = without (names_of (map row_of rows)) (members_view c.args.members.now) in
     let tags = c.rows.tags in
-    let name : c.as_str.result.now ≡ s = search rules in
+    let name : c.as_str-name.result.now ≡ s = search rules in
     let found : get s u ≡ Some v = subst (λ x. get x u ≡ Some v) name (sym c.in-Some.ensures) in
     let here = row_at rows i r (omega (arith, c.rows-test.true)) c.row-item.is in
     let j : Judges g k v n (term_at g n) gave_up = subst (λ a. Judges g k v n (term_at g n) (answer_of a c.judge_term.new.draft)) c.in-Over.is c.in_ok-after-in-Some.ensures in
@@ -535,7 +535,7 @@ judge_rows-returns-in-Required t c =
     let rest = c.args.rest.now in
     let others = without (names_of (map row_of rows)) (members_view c.args.members.now) in
     let tags = c.rows.tags in
-    let name : c.as_str.result.now ≡ s = search rules in
+    let name : c.as_str-name.result.now ≡ s = search rules in
     let gone : get s u ≡ None = subst (λ x. get x u ≡ None) name (sym c.in-None.ensures) in
     let here = row_at rows i r (omega (arith, c.rows-test.true)) c.row-item.is in
     let it = no_left k (missing tags s n) in
@@ -559,7 +559,7 @@ judge_rows-rows-preserved t c =
     let tags = c.rows.tags in
     let more = map row_of (drop (i + 1) rows) in
     let inv = c.rows.invariant in
-    let name : c.as_str.result.now ≡ s = search rules in
+    let name : c.as_str-name.result.now ≡ s = search rules in
     let here = row_at rows i r (omega (arith, c.rows-test.true)) c.row-item.is in
     let within = rows_within_at (length c.args.terms.now) rows i r (omega (arith, c.rows-test.true)) c.row-item.is inv.within in
     let few = more_tags tags s in

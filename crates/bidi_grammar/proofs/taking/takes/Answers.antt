@@ -1,4 +1,4 @@
-use Rattle.std.proofs.Common.{◌≡◌, ◌∙◌, length, nat_le, sym, ap}
+use Rattle.std.proofs.Common.{◌≡◌, ◌∙◌, length, nat_le, rules, sym, ap}
 use Rattle.std.specs.Prelude.{◌==◌, false}
 use Rattle.std.specs.Option.{option_map_or}
 use Rattle.json.specs.Value.{value_view, items_view}
@@ -16,6 +16,8 @@ returns-in-Some-as_items c =
 pub returns-in-Some-as_items-2 : goal.returns-in-Some-as_items-2
 returns-in-Some-as_items-2 c =
     let ns = c.in-TupleOf.parts.items in
-    ap (λ n. n == length ns) (sym (count-items_view c.in-Some-as_items-2.items.now))
+    let long : c.len.result ≡ length ns = search rules in
+    ap (λ n. length c.in-Some-as_items-2.items.now == n) long
+    ∙ ap (λ n. n == length ns) (sym (count-items_view c.in-Some-as_items-2.items.now))
     ∙ ap (λ o. option_map_or (λ ts. count ts == length ns) o false) c.in-Some-as_items-2.ensures
     ∙ ap (λ x. takes (value_view c.args.value.now) (term_of x)) (sym c.in-TupleOf.is)
