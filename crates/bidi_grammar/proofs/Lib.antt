@@ -4,3 +4,4 @@ pub mod JudgeLemmas
 pub mod TableLemmas
 pub mod ListsLemmas
 pub mod SourceLemmas
+pub mod WordLemmas

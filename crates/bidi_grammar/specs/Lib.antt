@@ -5,3 +5,4 @@ pub mod Reason
 pub mod Judges
 pub mod View
 pub mod Source
+pub mod Words

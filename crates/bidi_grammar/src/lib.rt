@@ -2,7 +2,7 @@
 //!
 //! A grammar is a table of [`Term`]s, which name one another by their places. [`is_grounded`] says whether a table may be asked. [`judge`]
 //! judges a value by the term at a place: it fits, it does not fit for a [`Reason`], or that takes more looks than it may. [`fits`] says
-//! only whether it fits. [`table_says_what_is_written`] is the law for whoever makes a table of rules in a text: if each place passes a
+//! only whether it fits. [`pointer`], [`wanted`] and [`found_words`] put the parts of a reason into words. [`table_says_what_is_written`] is the law for whoever makes a table of rules in a text: if each place passes a
 //! test of its own, the table says of every value what the rules say.
 //!
 //! A value is one of `json`, with its numbers as texts. Numbers of a range with a fraction are compared as IEEE doubles. Of members of one
@@ -20,9 +20,13 @@ mod reason;
 mod sources;
 mod taking;
 mod term;
+mod wanting;
+mod words;
 
 pub use grounded::is_grounded;
 pub use judging::{fits, judge};
 pub use reason::{PathStep, Reason, Verdict};
 pub use sources::table_says_what_is_written;
 pub use term::{Bound, Need, Row, Term};
+pub use wanting::wanted;
+pub use words::{found_words, pointer};
