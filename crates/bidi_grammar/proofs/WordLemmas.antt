@@ -1,13 +1,16 @@
 -- What pointers, told words and counts are made of.
 use Rattle.std.proofs.Common.{◌≡◌, ◌≢◌, ◌≤◌, ◌∙◌, ℕ, suc, ◌+◌, ◌<◌, List, [], ◌∷◌, ◌++◌, flat_map, length, get_or, codes, decimal, eqb, false, rules, Bool, true}
-use Rattle.std.proofs.Common.{refl, sym, ap, ap₂, append_assoc, append-nil, arith, lit<, ne_eqb, encode_utf8, encode_utf8_all, Vec, Global}
+use Rattle.std.proofs.Common.{Option, Some, None, refl, sym, ap, ap₂, append_assoc, append-nil, arith, lit<, ne_eqb, encode_utf8, encode_utf8_all, Vec, Global}
 use Rattle.std.proofs.lemmas.List.Concat.{flat_map-append}
 use Rattle.std.proofs.lemmas.Str.{inside_one}
 use Rattle.std.specs.Borrow.{Bor}
+use Rattle.json.specs.Print.{print, print_from, quoted}
+use Rattle.json.specs.Token as token
 use Rattle.json.specs.Json as json
 use Rattle.json.specs.Value.{value_view, items_view, members_view}
 use Rattle.json.specs.declared.value.Value.{Value, Array as ArrayOf, Object as ObjectOf, the_lemmas as the_values}
-use Rattle.bidi_grammar.specs.Words.{escaped_byte, escaped, told_with, each_once, count_words, count_members}
+use Rattle.bidi_grammar.specs.Term.{Term, either}
+use Rattle.bidi_grammar.specs.Words.{choice_in, escaped_byte, escaped, told_with, each_once, count_words, count_members}
 
 -- ---- pointers
 
@@ -56,10 +59,10 @@ length-members_view [] = refl
 length-members_view (m ∷ ms) = ap suc (length-members_view ms)
 
 -- one level of a value
-pub value_view-Array : (v : Vec (Value Global)) → value_view (ArrayOf v) ≡ json.array (items_view v.items)
+pub value_view-Array : (v : Vec (Value Global) Global) → value_view (ArrayOf v) ≡ json.array (items_view v.items)
 value_view-Array v = search (rules, the_values)
 
-pub value_view-Object : (v : Vec (Bor (List ℕ) × Value Global)) → value_view (ObjectOf v) ≡ json.object (members_view v.items)
+pub value_view-Object : (v : Vec (Bor (List ℕ) × Value Global) Global) → value_view (ObjectOf v) ≡ json.object (members_view v.items)
 value_view-Object v = search (rules, the_values)
 
 -- the words of a count as a format joins them
@@ -72,3 +75,20 @@ more_parts kind part n p q =
     let not_none : eqb n 0 ≡ false = ne_eqb n 0 p in
     let not_one : eqb n 1 ≡ false = ne_eqb n 1 q in
     rw (not_none, not_one) (simp append_assoc)
+
+-- a string alone is written in quotes
+pub print-string : (s : List ℕ) → print (token.string s ∷ []) ≡ quoted s
+unfolding print_from
+print-string s = append-nil (quoted s)
+
+-- ---- choices
+
+some_pair : (p q : ℕ × ℕ) → Some p ≡ Some q → p ≡ q
+some_pair p q e = cc
+
+-- a term with two parts is the choice of them
+pub choice_of : (τ : Term) (m n : ℕ) → Some (m, n) ≡ choice_in τ → τ ≡ either m n
+choice_of (either a b) m n e =
+    let same = some_pair (m, n) (a, b) e in
+    ap₂ either (sym (ap (λ p. p.0) same)) (sym (ap (λ p. p.1) same))
+choice_of τ m n e = absurd (cc)

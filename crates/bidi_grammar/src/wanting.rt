@@ -28,7 +28,6 @@ pub fn wanted(alloc: Global, terms: &[Term], wants: &[usize]) -> Result<String, 
 }
 
 // Tells the alternatives of the terms at some places.
-#[tactic(none)]
 fn tell_all(
     alloc: Global,
     terms: &[Term],
@@ -51,7 +50,6 @@ fn tell_all(
 }
 
 // Tells the alternatives of a term.
-#[tactic(none)]
 #[cycle(alternatives)]
 fn tell_term(
     alloc: Global,
@@ -86,7 +84,6 @@ fn choice_in(term: &Term) -> Option<(usize, usize)>
 }
 
 // Tells the alternatives of two terms.
-#[tactic(none)]
 #[cycle(alternatives)]
 fn tell_both(
     alloc: Global,
