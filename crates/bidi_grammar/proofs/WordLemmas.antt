@@ -92,3 +92,9 @@ choice_of (either a b) m n e =
     let same = some_pair (m, n) (a, b) e in
     ap₂ either (sym (ap (λ p. p.0) same)) (sym (ap (λ p. p.1) same))
 choice_of τ m n e = absurd (cc)
+
+-- ---- lists
+
+pub none_of : (xs : List ℕ) → length xs ≡ 0 → xs ≡ []
+none_of [] e = refl
+none_of (x ∷ xs) e = absurd (omega (arith, e))

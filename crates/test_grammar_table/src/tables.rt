@@ -10,8 +10,10 @@
 //! | `list N PLACE`, `tuple PLACE ..`, `either PLACE PLACE`, `rule NAME PLACE` | as it says |
 //! | `map REST !NAME:PLACE ?NAME:PLACE ..` | `!` before a required name, `?` before an optional one; REST is a place or `-` |
 //!
-//! `PLACE LOOKS ANSWER VALUE` asks: the answer is `fits`, `unfit` or `over`.
-use bidi_grammar::{Bound, Need, Reason, Row, Term, Verdict, fits, is_grounded, judge};
+//! `PLACE LOOKS ANSWER VALUE` asks: the answer is `fits`, `unfit` or `over`. `PLACE why VALUE -> REASON` asks for the reason.
+use bidi_grammar::{
+    Bound, Need, Reason, Row, Term, Verdict, fits, found_words, is_grounded, judge, pointer, wanted,
+};
 use json::{Scratch, Value};
 use std::alloc::Global;
 use std::test::Fail;
@@ -34,12 +36,58 @@ pub fn check_table(alloc: Global, table: &str) -> Result<(), Fail> {
 fn check_question(alloc: Global, terms: &[Term], line: &str) -> Result<(), Fail> {
     let (place, rest) = line.split_once(' ').unwrap_or((line, ""));
     let (looks, rest) = rest.split_once(' ').unwrap_or((rest, ""));
+    if looks == "why" {
+        return check_reason(alloc, terms, number(place)?, rest);
+    }
     let (answer, text) = rest.split_once(' ').unwrap_or((rest, ""));
     let found = answer_to(alloc, terms, number(place)?, number(looks)? as u64, text)?;
     if found != answer {
         return Err(Fail::new(format_args!("{found} at {line}")));
     }
     Ok(())
+}
+
+fn check_reason(alloc: Global, terms: &[Term], place: usize, line: &str) -> Result<(), Fail> {
+    let (text, answer) = line.split_once(" -> ").unwrap_or((line, ""));
+    if !is_grounded(terms) || place >= terms.len() {
+        return Err(Fail::from("no table"));
+    }
+    let mut scratch = Scratch::new(alloc);
+    let value = Value::parse(alloc, text, &mut scratch).map_err(|_| Fail::from("no JSON"))?;
+    match judge(alloc, terms, &value, place, 1000)? {
+        Verdict::Fits => Err(Fail::new(format_args!("fits: {line}"))),
+        Verdict::GaveUp => Err(Fail::new(format_args!("over: {line}"))),
+        Verdict::Unfit(reason) => {
+            let found = told(alloc, terms, &reason)?;
+            if found.as_str() == answer {
+                Ok(())
+            } else {
+                Err(Fail::new(format_args!("{found} at {line}")))
+            }
+        }
+    }
+}
+
+/// `POINTER: wants WHAT, has WHAT (RULE)`
+fn told(alloc: Global, terms: &[Term], reason: &Reason<'_, '_>) -> Result<String, Fail> {
+    if !is_grounded(terms) {
+        return Err(Fail::from("no table"));
+    }
+    let place = pointer(alloc, &reason.steps)?;
+    let wants = wanted(alloc, terms, &reason.wants)?;
+    let found = found_words(alloc, reason.found)?;
+    let rule = name_at(terms, reason.named);
+    Ok(format!(in alloc; "{place}: wants {wants}, has {found} ({rule})")?)
+}
+
+fn name_at(terms: &[Term], place: Option<usize>) -> &str {
+    let Some(place) = place else {
+        return "no rule";
+    };
+    match terms.get(place) {
+        Some(Term::Rule(name, _)) => name.as_str(),
+        _ => "no rule",
+    }
 }
 
 /// The answer of both calls, which agree.
@@ -51,7 +99,7 @@ fn answer_to(
     text: &str,
 ) -> Result<&'static str, Fail> {
     if !is_grounded(terms) || place >= terms.len() {
-        return Ok("no table");
+        return Ok("no_table");
     }
     let mut scratch = Scratch::new(alloc);
     let value = Value::parse(alloc, text, &mut scratch).map_err(|_| Fail::from("no JSON"))?;

@@ -1,8 +1,8 @@
-use Rattle.std.proofs.Common.{◌≡◌, ◌∙◌, ◌++◌, ℕ, List, [], ◌∷◌, length, map, string_bytes, arith, rules, refl, sym, ap, subst}
+use Rattle.std.proofs.Common.{◌≡◌, ◌∙◌, ◌++◌, ℕ, List, [], ◌∷◌, length, map, string_bytes, arith, refl, sym, ap, subst}
 use Rattle.std.proofs.lemmas.Result.{on_ok_weaker}
 use Rattle.bidi_grammar.specs.Words.{AllAlternatives, no_place, a_place, each_once}
 use Rattle.bidi_grammar.specs.View.{table}
-use Rattle.bidi_grammar.proofs.WordLemmas.{each_once-append}
+use Rattle.bidi_grammar.proofs.WordLemmas.{each_once-append, none_of}
 use Rattle.bidi_grammar.proofs.wanting.+tell_all.Goals as goal
 
 pub tell_all-requires : goal.tell_all-requires
@@ -13,7 +13,7 @@ tell_all-requires t c =
 
 pub returns-in-None : goal.returns-in-None
 returns-in-None t c =
-    let none : c.args.wants.now ≡ [] = search rules in
+    let none : c.args.wants.now ≡ [] = none_of c.args.wants.now c.in-None.ensures.cases in
     ([], (subst (λ ns. AllAlternatives (table c.args.terms.now) ns []) (sym none) no_place, refl))
 
 pub returns-in_ok-tell_term-in-Some : goal.returns-in_ok-tell_term-in-Some
