@@ -144,8 +144,8 @@ def with_clauses(call, lines, at):
                 return at
             continue
         at += 1
-        # The head ends where the body begins, or at the semicolon of a trait's function without one.
-        if not line.strip().startswith("//") and line.endswith(("{", ";")):
+        # The head ends where the body begins, which may be empty, or at the semicolon of a trait's function without one.
+        if not line.strip().startswith("//") and line.endswith(("{", "{}", ";")):
             return at
 
 
