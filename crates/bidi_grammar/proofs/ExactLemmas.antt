@@ -182,7 +182,7 @@ module _ {g : Grammar} where
     says (taken k t n τ p e) = plain_fits g t τ p e
     says (in_list k ts n least m a e j) =
         same (AllFit g ts m) (Fits g (json.array ts) (list_of least m)) a (λ f. fits_list ts least m (leb-true least (count ts) e) f) (λ f. list_inside f) (items_say j)
-    says (in_tuple k ts n ns a j) =
+    says (in_tuple k ts n ns a e j) =
         same (EachFits g ts ns) (Fits g (json.array ts) (tuple_of ns)) a (λ f. fits_tuple ts ns f) (λ f. tuple_inside f) (parts_say j)
     says (in_map k ms n rows rest a j) =
         same (RowsFit g (json.object ms) rows × OthersFit g rest (without (names_of rows) ms)) (Fits g (json.object ms) (map_of rows rest)) a

@@ -97,10 +97,12 @@ list_judged g k t n σ least m ts a e is h j =
     let here : takes (json.array ts) (list_of least m) ≡ true = subst (λ x. takes (json.array ts) x ≡ true) e (subst (λ u. takes u σ ≡ true) same h) in
     subst (λ x. Judges g (suc k) t n x a) (sym e) (subst (λ u. Judges g (suc k) u n (list_of least m) a) (sym same) (in_list k ts n least m a here j))
 
-pub tuple_judged : (g : Grammar) (k : ℕ) (t : Json) (n : ℕ) (σ : Term) (ns : List ℕ) (ts : Items) (a : Answer) → σ ≡ tuple_of ns → Some ts ≡ as_array t
+pub tuple_judged : (g : Grammar) (k : ℕ) (t : Json) (n : ℕ) (σ : Term) (ns : List ℕ) (ts : Items) (a : Answer) → σ ≡ tuple_of ns → Some ts ≡ as_array t → takes t σ ≡ true
     → PartsJudge g k 0 ts ns a → Judges g (suc k) t n σ a
-tuple_judged g k t n σ ns ts a e is j =
-    subst (λ x. Judges g (suc k) t n x a) (sym e) (subst (λ u. Judges g (suc k) u n (tuple_of ns) a) (sym (array_of t ts is)) (in_tuple k ts n ns a j))
+tuple_judged g k t n σ ns ts a e is h j =
+    let same = array_of t ts is in
+    let here : takes (json.array ts) (tuple_of ns) ≡ true = subst (λ x. takes (json.array ts) x ≡ true) e (subst (λ u. takes u σ ≡ true) same h) in
+    subst (λ x. Judges g (suc k) t n x a) (sym e) (subst (λ u. Judges g (suc k) u n (tuple_of ns) a) (sym same) (in_tuple k ts n ns a here j))
 
 pub map_judged : (g : Grammar) (k : ℕ) (t : Json) (n : ℕ) (σ : Term) (rows : List Row) (rest : Option ℕ) (ms : Members) (a : Answer) → σ ≡ map_of rows rest → Some ms ≡ as_object t
     → RowsJudge g k rest (without (names_of rows) ms) 0 t rows a → Judges g (suc k) t n σ a

@@ -49,7 +49,8 @@ mutual
     taken : (k : ℕ) (t : Json) (n : ℕ) (τ : Term) → is_plain τ ≡ true → takes t τ ≡ true → Judges g (suc k) t n τ (yes_left k)
     in_list : (k : ℕ) (ts : Items) (n least m : ℕ) (a : Answer) → takes (json.array ts) (list_of least m) ≡ true → ItemsJudge g k 0 ts m a
         → Judges g (suc k) (json.array ts) n (list_of least m) a
-    in_tuple : (k : ℕ) (ts : Items) (n : ℕ) (ns : List ℕ) (a : Answer) → PartsJudge g k 0 ts ns a → Judges g (suc k) (json.array ts) n (tuple_of ns) a
+    in_tuple : (k : ℕ) (ts : Items) (n : ℕ) (ns : List ℕ) (a : Answer) → takes (json.array ts) (tuple_of ns) ≡ true → PartsJudge g k 0 ts ns a
+        → Judges g (suc k) (json.array ts) n (tuple_of ns) a
     in_map : (k : ℕ) (ms : Members) (n : ℕ) (rows : List Row) (rest : Option ℕ) (a : Answer)
         → RowsJudge g k rest (without (names_of rows) ms) 0 (json.object ms) rows a → Judges g (suc k) (json.object ms) n (map_of rows rest) a
     -- the second alternative is asked only if the value does not fit the first

@@ -147,7 +147,7 @@ judge_inside-returns-in-Some-as_items t c =
     let same : c.deref.result.now ≡ ns = search rules in
     let judged : IfOk c.judge_parts.result (λ a. PartsJudge g c.args.looks 0 ts c.deref.result.now (answer_of a d)) = c.judge_parts.ensures in
     IfOk-weaker c.judge_parts.result _ _
-    (λ a j. tuple_judged g c.args.looks u c.args.n (term_of c.args.term.now) ns ts (answer_of a d) (ap term_of c.in-TupleOf.is) c.in-Some-as_items.ensures
+    (λ a j. tuple_judged g c.args.looks u c.args.n (term_of c.args.term.now) ns ts (answer_of a d) (ap term_of c.in-TupleOf.is) c.in-Some-as_items.ensures c.requires.taken
     (subst (λ ks. PartsJudge g c.args.looks 0 ts ks (answer_of a d)) same j)) judged
 
 pub judge_inside-judge_rows-requires : goal.judge_inside-judge_rows-requires
