@@ -136,8 +136,8 @@ answer_of (look.Yes left) r = yes_left left
 answer_of (look.No left) r = no_left left (draft_of r)
 answer_of look.Over r = gave_up
 
--- What a verdict says. With `Fits` the value fits the term at that place; with a reason it does not, and judging it with so many looks gives this
--- reason; with `GaveUp` judging it takes more looks.
+-- What a verdict says. With `Fits` the value fits the term at that place. With a reason it does not, and judging it gives this reason. With `GaveUp`
+-- judging it takes more looks.
 abbrev pub Judged : Grammar → ℕ → Json → ℕ → code_verdict.Verdict → Type 0
 Judged g looks t n verdict.Fits = Fits g t (term_at g n)
 Judged g looks t n (verdict.Unfit r) = (Fits g t (term_at g n) → ⊥) × ((left : ℕ) × Judges g looks t n (term_at g n) (no_left left (reason_of r)))

@@ -17,17 +17,18 @@ use crate::term::{Need, Row, Term};
 use json::Value;
 use std::alloc::{AllocError, Global};
 
-/// Judges a value by the term at a place of the table: it fits, it does not for a reason, or that takes more than so many looks.
+/// Judges a value by the term at a place of the table.
 ///
-/// One look is one term asked about one value. Most messages take ten to thirty; in some grammars a value takes four times as many for
-/// each level that it nests, so a caller who reads grammars of others sets a limit, as a million.
+/// The value fits, or it does not fit for a reason, or judging it takes more than `looks` looks. One look is one term asked about one
+/// value. In some grammars each level of a value takes several times as many looks as the level below. So give a limit, such as a
+/// million, for a grammar or a value that comes from outside.
 ///
-/// The place of a reason is the deepest on its way, and the first in the order of the rule's members. Against a choice it is that of the
-/// alternative which a member `type` or `method` says is meant, else the one that stands deepest; where two alternatives want something
-/// else at one place, either may stand there.
+/// The reason names the deepest place on its way, and the first one in the order of the rule's members. Against a choice, it is the
+/// reason against the alternative that a member `type` or `method` selects. If none is selected, it is the reason whose place is deepest.
+/// If two alternatives want different things at one place, it wants either.
 ///
-/// A look at an object finds each member that its term names. Takes memory for the reason, and on the way only where one lies two steps
-/// deep or wants two things. The recursion is as deep as the value nests, times the choices and rules on the way.
+/// A look at an object finds each member that the term names. Takes memory for the reason, and before that only for a reason that is two
+/// steps deep or wants two things. Recursion is as deep as the value nests, times the choices and rules on the way.
 ///
 /// # Errors
 /// No memory: an allocation failed.
@@ -42,8 +43,8 @@ pub fn judge<'a, 'b>(
     requires grounded { IsGrounded (table terms.now) }
     // The place is in the table.
     requires there { n < length terms.now }
-    // The verdict is right: with `Fits` the value fits, with a reason it does not, and with `GaveUp` judging it takes more looks.
-    ensures { IfOk result (λ v. Judged (table terms.now) looks (value_view value.now) n v) }
+    // With `Fits` the value fits. With a reason it does not, and judging it gives this reason. With `GaveUp` judging it takes more looks.
+    ensures judged { IfOk result (λ v. Judged (table terms.now) looks (value_view value.now) n v) }
 {
     let mut draft = Draft::new();
     match judge_term(alloc, terms, value, n, looks, &mut draft)? {
@@ -53,9 +54,9 @@ pub fn judge<'a, 'b>(
     }
 }
 
-/// Whether a value fits the term at a place of the table, or `None` if that takes more than so many looks.
+/// Whether a value fits the term at a place of the table, or `None` if judging it takes more than `looks` looks.
 ///
-/// Asks what [`judge`] asks, and makes no reason.
+/// Takes the looks that [`judge`] takes, and gives no reason.
 ///
 /// # Errors
 /// No memory: an allocation failed.
@@ -70,8 +71,8 @@ pub fn fits<'a, 'b>(
     requires grounded { IsGrounded (table terms.now) }
     // The place is in the table.
     requires there { n < length terms.now }
-    // The result is true exactly if the value fits, and `None` only if judging it takes more looks.
-    ensures {
+    // The result is true if the value fits, false if it does not, and `None` only if judging it takes more looks.
+    ensures exact {
         IfOk result (λ found. MatchOption found (Judges (table terms.now) looks (value_view value.now) n (term_at (table terms.now) n) gave_up)
         (λ fits. IsTrue fits ↔ Fits (table terms.now) (value_view value.now) (term_at (table terms.now) n)))
     }
@@ -84,7 +85,7 @@ pub fn fits<'a, 'b>(
     }
 }
 
-// Judges a value by a term; where it does not fit, the draft has the reason.
+// Judges a value by the term at a place. If it does not fit, the draft has the reason.
 #[cycle(judge)]
 fn judge_term<'a, 'b>(
     alloc: Global,

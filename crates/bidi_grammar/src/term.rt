@@ -46,7 +46,8 @@ pub enum Term {
     Truth(bool),
     /// `null`.
     Null,
-    /// `a..b`: a whole number from the first to the second. `1.0` is no whole number, and one of more than 64 bits is in no range.
+    /// `a..b`: a whole number from the first to the second. `1.0` is not a whole number, and a whole number of more than 64 bits fits no
+    /// range.
     Whole(i128, i128),
     /// `a..b` or `float .ge a`: any number between two bounds.
     Number(Bound, Bound),
