@@ -19,22 +19,22 @@ some_same x y e = cc
 no_yes : {X : Type 0} (a : Answer) (j : ℕ) → stops a ≡ true → a ≡ yes_left j → X
 no_yes a j e is = absurd (true≢false (sym e ∙ ap stops is))
 
-left_of : Answer → ℕ
+abbrev left_of : Answer → ℕ
 left_of (yes_left k) = k
 left_of (no_left k r) = k
 left_of gave_up = 0
 
-reason_in : Answer → Reason
+abbrev reason_in : Answer → Reason
 reason_in (yes_left k) = here 0 json.null
 reason_in (no_left k r) = r
 reason_in gave_up = here 0 json.null
 
-is_yes : Answer → Bool
+abbrev is_yes : Answer → Bool
 is_yes (yes_left k) = true
 is_yes (no_left k r) = false
 is_yes gave_up = false
 
-is_no : Answer → Bool
+abbrev is_no : Answer → Bool
 is_no (yes_left k) = false
 is_no (no_left k r) = true
 is_no gave_up = false
@@ -51,7 +51,7 @@ not_no_over e = absurd (true≢false (ap is_no e))
 none_some : {X Y : Type 0} {u : Y} → None ≡ Some u → X
 none_some e = absurd (cc)
 
-is_required : Need → Bool
+abbrev is_required : Need → Bool
 is_required required = true
 is_required optional = false
 

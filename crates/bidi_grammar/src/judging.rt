@@ -72,10 +72,8 @@ pub fn fits<'a, 'b>(
     // The place is in the table.
     requires there { n < length terms.now }
     // The result is true if the value fits, false if it does not, and `None` only if judging it takes more looks.
-    ensures exact {
-        IfOk result (λ found. MatchOption found (Judges (table terms.now) looks (value_view value.now) n (term_at (table terms.now) n) gave_up)
-        (λ fits. IsTrue fits ↔ Fits (table terms.now) (value_view value.now) (term_at (table terms.now) n)))
-    }
+    ensures exact { IfOk result (λ found. MatchOption found (Judges (table terms.now) looks (value_view value.now) n (term_at (table terms.now) n) gave_up)
+        (λ fits. IsTrue fits ↔ Fits (table terms.now) (value_view value.now) (term_at (table terms.now) n))) }
 {
     let mut draft = Draft::new();
     match judge_term(alloc, terms, value, n, looks, &mut draft)? {
@@ -217,10 +215,8 @@ fn judge_second<'a, 'b>(
 ) -> Result<Look, AllocError>
     requires grounded { IsGrounded (table terms.now) }
     requires second { second < length terms.now }
-    ensures {
-        (k first : ℕ) → Judges (table terms.now) k (value_view value.now) first (term_at (table terms.now) first) (no_left looks (draft_of draft.old))
-        → IfOk result (λ a. Judges (table terms.now) (suc k) (value_view value.now) n (cddl.either first second) (answer_of a draft.new))
-    }
+    ensures { (k first : ℕ) → Judges (table terms.now) k (value_view value.now) first (term_at (table terms.now) first) (no_left looks (draft_of draft.old))
+        → IfOk result (λ a. Judges (table terms.now) (suc k) (value_view value.now) n (cddl.either first second) (answer_of a draft.new)) }
 {
     let mut other = Draft::new();
     match judge_term(alloc, terms, value, second, looks, &mut other)? {
@@ -306,10 +302,8 @@ fn judge_rows<'a, 'b>(
     requires rows { rows_are_within (length terms.now) (map row_of rows.now) ≡ true }
     requires rest { rest_is_within (length terms.now) rest.now ≡ true }
     requires members { Some (members_view members.now) ≡ as_object (value_view value.now) }
-    ensures {
-        IfOk result (λ a. RowsJudge (table terms.now) looks rest.now (without (names_of (map row_of rows.now)) (members_view members.now))
-        0 (value_view value.now) (map row_of rows.now) (answer_of a draft.new))
-    }
+    ensures { IfOk result (λ a. RowsJudge (table terms.now) looks rest.now (without (names_of (map row_of rows.now)) (members_view members.now))
+        0 (value_view value.now) (map row_of rows.now) (answer_of a draft.new)) }
 {
     let mut left = looks;
     let mut tags = 0;
@@ -353,10 +347,8 @@ fn judge_others<'a, 'b>(
 ) -> Result<Look, AllocError>
     requires grounded { IsGrounded (table terms.now) }
     requires rest { rest_is_within (length terms.now) rest.now ≡ true }
-    ensures {
-        IfOk result (λ a. OthersJudge (table terms.now) looks rest.now tags
-        (without (names_of (map row_of rows.now)) (members_view members.now)) (answer_of a draft.new))
-    }
+    ensures { IfOk result (λ a. OthersJudge (table terms.now) looks rest.now tags
+        (without (names_of (map row_of rows.now)) (members_view members.now)) (answer_of a draft.new)) }
 {
     let mut left = looks;
     'members: for member in members {

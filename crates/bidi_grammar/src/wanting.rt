@@ -18,9 +18,7 @@ pub fn wanted(alloc: Global, terms: &[Term], wants: &[usize]) -> Result<String, 
     // The table may be asked.
     requires { IsGrounded (table terms.now) }
     // The words are those of all alternatives, in their order and each once.
-    ensures {
-        IfOk result (λ s. (ws : List (List ℕ)) × (AllAlternatives (table terms.now) wants.now ws × (string_bytes s ≡ choice_text (each_once [] ws))))
-    }
+    ensures { IfOk result (λ s. (ws : List (List ℕ)) × (AllAlternatives (table terms.now) wants.now ws × (string_bytes s ≡ choice_text (each_once [] ws)))) }
 {
     let mut told = Vec::new(alloc);
     tell_all(alloc, terms, wants, &mut told)?;
@@ -35,10 +33,8 @@ fn tell_all(
     told: &mut Vec<String>,
 ) -> Result<(), AllocError>
     requires { IsGrounded (table terms.now) }
-    ensures {
-        OnOk result ((ws : List (List ℕ)) × (AllAlternatives (table terms.now) wants.now ws
-        × (map string_bytes told.new.items ≡ each_once (map string_bytes told.old.items) ws)))
-    }
+    ensures { OnOk result ((ws : List (List ℕ)) × (AllAlternatives (table terms.now) wants.now ws
+        × (map string_bytes told.new.items ≡ each_once (map string_bytes told.old.items) ws))) }
 {
     match wants.split_first() {
         None => Ok(()),
@@ -58,10 +54,8 @@ fn tell_term(
     told: &mut Vec<String>,
 ) -> Result<(), AllocError>
     requires { IsGrounded (table terms.now) }
-    ensures {
-        OnOk result ((ws : List (List ℕ)) × (Alternatives (table terms.now) (term_at (table terms.now) n) ws
-        × (map string_bytes told.new.items ≡ each_once (map string_bytes told.old.items) ws)))
-    }
+    ensures { OnOk result ((ws : List (List ℕ)) × (Alternatives (table terms.now) (term_at (table terms.now) n) ws
+        × (map string_bytes told.new.items ≡ each_once (map string_bytes told.old.items) ws))) }
 {
     if n >= terms.len() {
         return tell(told, String::from_str(alloc, "nothing")?);
@@ -93,10 +87,8 @@ fn tell_both(
     told: &mut Vec<String>,
 ) -> Result<(), AllocError>
     requires { IsGrounded (table terms.now) }
-    ensures {
-        OnOk result ((ws : List (List ℕ)) × (Alternatives (table terms.now) (cddl.either first second) ws
-        × (map string_bytes told.new.items ≡ each_once (map string_bytes told.old.items) ws)))
-    }
+    ensures { OnOk result ((ws : List (List ℕ)) × (Alternatives (table terms.now) (cddl.either first second) ws
+        × (map string_bytes told.new.items ≡ each_once (map string_bytes told.old.items) ws))) }
 {
     tell_term(alloc, terms, first, told)?;
     tell_term(alloc, terms, second, told)
@@ -150,7 +142,10 @@ fn term_words(alloc: Global, terms: &[Term], term: &Term) -> Result<String, Allo
         Term::Bool => String::from_str(alloc, "true or false"),
         Term::Truth(truth) => String::from_str(alloc, bool_words(*truth)),
         Term::Null => String::from_str(alloc, "null"),
-        Term::Whole(least, most) => format!(in alloc; "a whole number from {} to {}", *least, *most),
+        Term::Whole(least, most) => format!(in alloc;
+            "a whole number from {} to {}",
+            *least, *most
+        ),
         Term::Number(least, most) => number_words(alloc, least, most),
         Term::Any => String::from_str(alloc, "any value"),
         Term::ListOf(least, _) => list_words(alloc, *least),

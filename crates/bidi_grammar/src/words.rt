@@ -124,7 +124,12 @@ fn text_words(alloc: Global, text: &str) -> Result<String, AllocError>
 }
 
 // An array or an object by how many parts it has.
-pub(crate) fn count_words(alloc: Global, kind: &str, part: &str, count: usize) -> Result<String, AllocError>
+pub(crate) fn count_words(
+    alloc: Global,
+    kind: &str,
+    part: &str,
+    count: usize,
+) -> Result<String, AllocError>
     ensures { IfOk result (λ s. string_bytes s ≡ count_words kind.now part.now count) }
 {
     if count == 0 {

@@ -23,6 +23,11 @@ returns-in_ok-tell_term-in-Some t c =
     let old = map string_bytes c.args.told.now.items in
     let one = c.in_ok-tell_term-in-Some.ensures in
     on_ok_weaker c.tell_all.result
-    (λ two. (one.0 ++ two.0, (subst (λ ns. AllAlternatives g ns (one.0 ++ two.0)) (sym split) (a_place c.in-Some.want.now c.in-Some.more.now one.0 two.0 one.1.0 two.1.0),
-    two.1.1 ∙ ap (λ told. each_once told two.0) one.1.1 ∙ sym (each_once-append old one.0 two.0))))
+    (λ two. (
+      one.0 ++ two.0,
+      (
+        subst (λ ns. AllAlternatives g ns (one.0 ++ two.0)) (sym split) (a_place c.in-Some.want.now c.in-Some.more.now one.0 two.0 one.1.0 two.1.0),
+        two.1.1 ∙ ap (λ told. each_once told two.0) one.1.1 ∙ sym (each_once-append old one.0 two.0),
+      ),
+    ))
     c.tell_all.ensures
