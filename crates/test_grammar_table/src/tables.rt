@@ -166,7 +166,8 @@ fn number(word: &str) -> Result<usize, Fail> {
 }
 
 fn whole(word: &str) -> Result<i128, Fail> {
-    word.parse::<i128>().map_err(|_| Fail::from("no whole number"))
+    word.parse::<i128>()
+        .map_err(|_| Fail::from("no whole number"))
 }
 
 fn numbers(alloc: Global, words: &str) -> Result<Vec<usize>, Fail> {

@@ -13,11 +13,11 @@ use Rattle.bidi_grammar.specs.Term.{names_of, term_at}
 use Rattle.bidi_grammar.specs.Fits.{takes, without}
 use Rattle.bidi_grammar.specs.Reason as step
 use Rattle.bidi_grammar.specs.Reason.{Reason, missing, unknown, under, by, here, told, tags_with}
-use Rattle.bidi_grammar.specs.Judges.{Answer, yes_left, no_left, gave_up, Judges, no_look, not_taken, in_first, out_in_first, in_second, of_rule}
+use Rattle.bidi_grammar.specs.Judges.{yes_left, no_left, gave_up, Judges, no_look, not_taken, in_first, out_in_first, in_second, of_rule}
 use Rattle.bidi_grammar.specs.Judges.{ItemsJudge, all_asked, at_item, next_item, PartsJudge, parts_asked, at_part, next_part}
 use Rattle.bidi_grammar.specs.Judges.{RowsJudge, at_row, row_met, is_absent, rows_met, OthersJudge, others_asked, is_unknown, at_other, next_other}
 use Rattle.bidi_grammar.specs.View.{answer_of, are_within, draft_of, is_grounded, need_of, rest_is_within, row_of, rows_are_within, table, term_of}
-use Rattle.bidi_grammar.proofs.LevelLemmas.{levels, items_levels, members_levels, levels-get, array_levels, object_levels}
+use Rattle.bidi_grammar.proofs.LevelLemmas.{items_levels, members_levels, levels-get, array_levels, object_levels}
 use Rattle.bidi_grammar.proofs.TableLemmas.{term_here, grounded_here, few_terms}
 use Rattle.bidi_grammar.proofs.JudgeLemmas.{nth, number_at, item_here, row_at, rows_within_at, within_at, other_kept, other_gone, more_tags, plain_judged, list_judged, tuple_judged, map_judged, row_missing, same_long, one_less}
 use Rattle.bidi_grammar.proofs.judging.+judge.Goals as goal

@@ -1,7 +1,7 @@
 use Rattle.std.proofs.Common.{◌≡◌, ◌∙◌, length, nat_le, rules, sym, ap}
 use Rattle.std.specs.Prelude.{◌==◌, false}
 use Rattle.std.specs.Option.{option_map_or}
-use Rattle.json.specs.Value.{value_view, items_view}
+use Rattle.json.specs.Value.{value_view}
 use Rattle.bidi_grammar.specs.Fits.{count, takes}
 use Rattle.bidi_grammar.specs.View.{term_of}
 use Rattle.bidi_grammar.proofs.JudgeLemmas.{count-items_view}
