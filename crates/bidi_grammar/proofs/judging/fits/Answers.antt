@@ -12,7 +12,7 @@ returns-in-Yes c =
     let u = value_view c.args.value.now in
     let n = c.args.n in
     let j : Judges g c.args.looks u n (term_at g n) (yes_left c.in-Yes.field-0) = subst (λ a. Judges g c.args.looks u n (term_at g n) (answer_of a c.judge_term.new.draft)) c.in-Yes.is c.in_ok-judge_term.ensures in
-    record { exact = (λ h. says j, λ f. refl); }
+    record { exact = (λ h. says j, λ f. refl) }
 
 pub returns-in-No : goal.returns-in-No
 returns-in-No c =
@@ -20,7 +20,7 @@ returns-in-No c =
     let u = value_view c.args.value.now in
     let n = c.args.n in
     let j : Judges g c.args.looks u n (term_at g n) (no_left c.in-No.field-0 (draft_of c.judge_term.new.draft)) = subst (λ a. Judges g c.args.looks u n (term_at g n) (answer_of a c.judge_term.new.draft)) c.in-No.is c.in_ok-judge_term.ensures in
-    record { exact = (λ h. absurd (true≢false (sym h)), λ f. absurd (says j f)); }
+    record { exact = (λ h. absurd (true≢false (sym h)), λ f. absurd (says j f)) }
 
 pub returns : goal.returns
 returns c =
@@ -28,4 +28,4 @@ returns c =
     let u = value_view c.args.value.now in
     let n = c.args.n in
     let j : Judges g c.args.looks u n (term_at g n) gave_up = subst (λ a. Judges g c.args.looks u n (term_at g n) (answer_of a c.judge_term.new.draft)) c.in-Over.is c.in_ok-judge_term.ensures in
-    record { exact = j; }
+    record { exact = j }

@@ -12,7 +12,7 @@ returns-in-Yes c =
     let u = value_view c.args.value.now in
     let n = c.args.n in
     let j : Judges g c.args.looks u n (term_at g n) (yes_left c.in-Yes.field-0) = subst (λ a. Judges g c.args.looks u n (term_at g n) (answer_of a c.judge_term.new.draft)) c.in-Yes.is c.in_ok-judge_term.ensures in
-    record { judged = says j; }
+    record { judged = says j }
 
 pub returns-in-No : goal.returns-in-No
 returns-in-No c =
@@ -22,7 +22,7 @@ returns-in-No c =
     let r = draft_of c.judge_term.new.draft in
     let left = c.in-No.field-0 in
     let j : Judges g c.args.looks u n (term_at g n) (no_left left r) = subst (λ a. Judges g c.args.looks u n (term_at g n) (answer_of a c.judge_term.new.draft)) c.in-No.is c.in_ok-judge_term.ensures in
-    record { judged = (says j, (left, subst (λ x. Judges g c.args.looks u n (term_at g n) (no_left left x)) (sym c.in_ok-into_reason-in-No.ensures) j)); }
+    record { judged = (says j, (left, subst (λ x. Judges g c.args.looks u n (term_at g n) (no_left left x)) (sym c.in_ok-into_reason-in-No.ensures) j)) }
 
 pub returns : goal.returns
 returns c =
@@ -30,4 +30,4 @@ returns c =
     let u = value_view c.args.value.now in
     let n = c.args.n in
     let j : Judges g c.args.looks u n (term_at g n) gave_up = subst (λ a. Judges g c.args.looks u n (term_at g n) (answer_of a c.judge_term.new.draft)) c.in-Over.is c.in_ok-judge_term.ensures in
-    record { judged = j; }
+    record { judged = j }
