@@ -1,8 +1,8 @@
 -- An answer is right: with a yes the value fits, with a reason it does not.
-use Rattle.std.proofs.Common.{◌≡◌, ◌∙◌, ◌⊎◌, ◌+◌, ℕ, suc, List, [], ◌∷◌, length, Bool, true, false, Option, Some, None, refl, inl, inr, sym, ap, subst, true≢false, leb-true, le-leb}
+use Rattle.std.proofs.Common.{◌≡◌, ◌∙◌, ◌⊎◌, ℕ, suc, List, [], ◌∷◌, length, Bool, true, false, Option, Some, None, refl, inl, inr, sym, ap, subst, true≢false, leb-true, le-leb}
 use Rattle.std.proofs.lemmas.Bool.{and_parts, and_from, eq-eqb}
 use Rattle.std.proofs.lemmas.Slice.Eq.{bytes_eq-Decides}
-use Rattle.std.specs.Prelude.{⊤, ◌≤◌, ◌↔◌, IsTrue, ℤ, int_le, T, ◌&&◌}
+use Rattle.std.specs.Prelude.{⊤, ℤ, int_le, T, ◌&&◌}
 use Rattle.std.specs.Option.{option_map_or}
 use lib.Signed.{le_z_yes}
 use Rattle.json.specs.Json as json

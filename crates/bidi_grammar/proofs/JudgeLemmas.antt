@@ -13,7 +13,7 @@ use Rattle.json.specs.Json.{Json, Items, item, no_items, Members, member}
 use Rattle.json.specs.Find.{get, as_array, as_object}
 use Rattle.json.specs.Value.{value_view, items_view, members_view}
 use Rattle.json.specs.declared.value.Value.{Value}
-use Rattle.bidi_grammar.specs.Term.{Need, required, Row, row, names_of, Term, list_of, tuple_of, map_of, Grammar, term_at}
+use Rattle.bidi_grammar.specs.Term.{Need, required, Row, row, names_of, Term, list_of, tuple_of, map_of, Grammar}
 use Rattle.bidi_grammar.specs.Fits.{count, is_plain, takes, without}
 use Rattle.bidi_grammar.specs.Judges.{Answer, yes_left, no_left, Judges, taken, in_list, in_tuple, in_map, ItemsJudge, PartsJudge, RowsJudge, is_missing}
 use Rattle.bidi_grammar.specs.Reason.{is_tag, missing, tags_with}

@@ -1,5 +1,5 @@
 -- How deep a value nests; a part of it nests less deep.
-use Rattle.std.proofs.Common.{◌≡◌, ◌∙◌, ◌<◌, ℕ, suc, List, Bool, true, false, Option, Some, None, cond, ap, arith}
+use Rattle.std.proofs.Common.{◌≡◌, ◌<◌, ℕ, suc, List, Bool, true, false, Option, Some, None, cond, ap, arith}
 use Rattle.std.specs.Prelude.{max, ◌≤◌}
 use Rattle.std.specs.Str.{bytes_eq}
 use Rattle.json.specs.Json.{Json, null, boolean, number, string, array, object, Items, no_items, item, Members, no_members, member}

@@ -4,7 +4,6 @@ use Rattle.std.specs.Prelude.{◌↔◌, ℤ, Bool}
 use Rattle.json.specs.Json as json
 use Rattle.json.specs.Json.{Json, Items, no_items, item, Members, no_members, member}
 use Rattle.json.specs.Find.{get}
-use Rattle.bidi_grammar.specs.Number.{whole_in}
 use Rattle.bidi_grammar.specs.Term as term
 use Rattle.bidi_grammar.specs.Term.{Need, optional, Bound, is_between, Row, row, names_of, Term, Grammar, term_at}
 use Rattle.bidi_grammar.specs.Fits.{without, Fits, fits_exactly, fits_text, fits_bool, fits_truth, fits_null, fits_whole, fits_number, fits_any, fits_list, fits_tuple, fits_map, fits_first, fits_second, fits_rule}

@@ -1,5 +1,5 @@
 -- The term at a place of a table, and what its numbers are.
-use Rattle.std.proofs.Common.{◌≡◌, ◌∙◌, ◌≤◌, ◌<◌, ◌+◌, ℕ, zero, suc, List, [], ◌∷◌, true, refl, arith, ap, subst, sym, length, map, get_or}
+use Rattle.std.proofs.Common.{◌≡◌, ◌∙◌, ◌≤◌, ◌<◌, ℕ, zero, suc, List, [], ◌∷◌, true, refl, arith, ap, subst, sym, length, get_or}
 use Rattle.std.proofs.lemmas.List.{get_or-map, length-map}
 use Rattle.bidi_grammar.specs.Term.{Term, nothing, term_at}
 use Rattle.bidi_grammar.specs.View.{term_of, table, is_grounded, IsGrounded}

@@ -1,6 +1,6 @@
 -- What pointers, told words and counts are made of.
-use Rattle.std.proofs.Common.{◌≡◌, ◌≢◌, ◌≤◌, ◌∙◌, ℕ, suc, ◌+◌, ◌<◌, List, [], ◌∷◌, ◌++◌, flat_map, length, get_or, codes, decimal, eqb, false, rules, Bool, true}
-use Rattle.std.proofs.Common.{Option, Some, None, refl, sym, ap, ap₂, append_assoc, append-nil, arith, lit<, ne_eqb, encode_utf8, encode_utf8_all, Vec, Global}
+use Rattle.std.proofs.Common.{◌≡◌, ◌≢◌, ◌∙◌, ℕ, suc, ◌<◌, List, [], ◌∷◌, ◌++◌, flat_map, length, get_or, codes, decimal, eqb, false, rules}
+use Rattle.std.proofs.Common.{Some, refl, sym, ap, ap₂, append_assoc, append-nil, arith, lit<, ne_eqb, encode_utf8, encode_utf8_all, Vec, Global}
 use Rattle.std.proofs.lemmas.List.Concat.{flat_map-append}
 use Rattle.std.proofs.lemmas.Str.{inside_one}
 use Rattle.std.specs.Borrow.{Bor}

@@ -4,7 +4,7 @@ use Rattle.json.specs.Json as json
 use Rattle.json.specs.Json.{Json, Items, no_items, Members, no_members}
 use Rattle.json.specs.Find.{get}
 use Rattle.bidi_grammar.specs.Term.{Need, required, optional, Row, row, names_of, Term, list_of, tuple_of, map_of, either, rule, Grammar, term_at}
-use Rattle.bidi_grammar.specs.Fits.{Fits, takes, is_plain, without}
+use Rattle.bidi_grammar.specs.Fits.{takes, is_plain, without}
 use Rattle.bidi_grammar.specs.Reason as step
 use Rattle.bidi_grammar.specs.Reason.{PathStep, Reason, here, missing, unknown, under, by, tags_with, told}
 
@@ -40,6 +40,12 @@ abbrev pub by_rule : ℕ → Answer → Answer
 by_rule n (yes_left k) = yes_left k
 by_rule n (no_left k r) = no_left k (by n r)
 by_rule n gave_up = gave_up
+
+-- whether the answer says that the value fits, or None if no look was left
+abbrev pub fit_in : Answer → Option Bool
+fit_in (yes_left k) = Some true
+fit_in (no_left k r) = Some false
+fit_in gave_up = None
 
 mutual
   -- with so many looks, asking whether the value fits the term at that place ends with the answer

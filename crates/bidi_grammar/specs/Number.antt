@@ -1,5 +1,5 @@
 -- The value of a JSON number, by its text. After RFC 8259, 6, and IEEE 754.
-use Rattle.std.specs.Prelude.{ℕ, ◌^◌, ℤ, int_le, List, length, drop, slice_index, ◌==◌, Bool, true, false, not, ◌&&◌, nat_lt, Option, Some, None, if◌then◌else◌}
+use Rattle.std.specs.Prelude.{ℕ, ◌^◌, ℤ, int_le, List, length, drop, slice_index, ◌==◌, Bool, false, not, ◌&&◌, nat_lt, Option, Some, None, if◌then◌else◌}
 use Rattle.std.specs.Option.{option_map_or}
 use Rattle.std.specs.Float.{Float, binary64}
 use Rattle.fast_float.specs.Text.{minus, Parts, scan, digits_of, nearest, with_sign}

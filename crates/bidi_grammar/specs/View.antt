@@ -1,5 +1,5 @@
 -- What the code's tables, reasons and answers stand for, and which tables may be asked.
-use Rattle.std.specs.Prelude.{◌≡◌, ◌≤◌, ◌<◌, ℕ, List, [], ◌∷◌, map, Bool, true, false, ◌&&◌, nat_lt, length, Option, Some, None, option_map, string_bytes}
+use Rattle.std.specs.Prelude.{⊤, ◌≡◌, ◌≤◌, ◌<◌, ℕ, List, [], ◌∷◌, map, Bool, true, ◌&&◌, nat_lt, length, Option, Some, None, option_map, string_bytes}
 use Rattle.std.specs.List.{list_all}
 use Rattle.json.specs.Json.{Json}
 use Rattle.json.specs.Value.{value_view}
@@ -7,7 +7,7 @@ use Rattle.bidi_grammar.specs.Term as cddl
 use Rattle.bidi_grammar.specs.Term.{Grammar, term_at}
 use Rattle.bidi_grammar.specs.Fits.{Fits}
 use Rattle.bidi_grammar.specs.Reason as told
-use Rattle.bidi_grammar.specs.Judges.{Judges, Answer, yes_left, no_left, gave_up}
+use Rattle.bidi_grammar.specs.Judges.{Answer, yes_left, no_left, gave_up}
 use Rattle.bidi_grammar.specs.declared.term.Need as code_need
 use Rattle.bidi_grammar.specs.declared.term.Need.TheVariants.{Required, Optional}
 use Rattle.bidi_grammar.specs.declared.term.Row.{Row}
@@ -136,9 +136,20 @@ answer_of (look.Yes left) r = yes_left left
 answer_of (look.No left) r = no_left left (draft_of r)
 answer_of look.Over r = gave_up
 
--- What a verdict says. With `Fits` the value fits the term at that place. With a reason it does not, and judging it gives this reason. With `GaveUp`
--- judging it takes more looks.
-abbrev pub Judged : Grammar → ℕ → Json → ℕ → code_verdict.Verdict → Type 0
-Judged g looks t n verdict.Fits = Fits g t (term_at g n)
-Judged g looks t n (verdict.Unfit r) = (Fits g t (term_at g n) → ⊥) × ((left : ℕ) × Judges g looks t n (term_at g n) (no_left left (reason_of r)))
-Judged g looks t n verdict.GaveUp = Judges g looks t n (term_at g n) gave_up
+-- the verdict tells the answer, with its reason
+abbrev pub Tells : code_verdict.Verdict → Answer → Type 0
+Tells verdict.Fits (yes_left k) = ⊤
+Tells verdict.Fits (no_left k s) = ⊥
+Tells verdict.Fits gave_up = ⊥
+Tells (verdict.Unfit r) (yes_left k) = ⊥
+Tells (verdict.Unfit r) (no_left k s) = reason_of r ≡ s
+Tells (verdict.Unfit r) gave_up = ⊥
+Tells verdict.GaveUp (yes_left k) = ⊥
+Tells verdict.GaveUp (no_left k s) = ⊥
+Tells verdict.GaveUp gave_up = ⊤
+
+-- with `Fits` the value fits the term at that place, and with a reason it does not
+abbrev pub IsRight : Grammar → Json → ℕ → code_verdict.Verdict → Type 0
+IsRight g t n verdict.Fits = Fits g t (term_at g n)
+IsRight g t n (verdict.Unfit r) = Fits g t (term_at g n) → ⊥
+IsRight g t n verdict.GaveUp = ⊤

@@ -1,14 +1,14 @@
 //! Judging a value by a term of a grammar.
-ghost use Rattle.std.specs.Prelude.{◌≡◌, ◌<◌, ◌↔◌, ℕ, List, suc, IfOk, IsTrue, MatchOption, length, map, true, false, Some, option_map};
+ghost use Rattle.std.specs.Prelude.{◌≡◌, ◌<◌, ◌↔◌, ℕ, List, suc, IfOk, IfSome, IsTrue, length, map, true, false, Some, option_map};
 ghost use Rattle.std.specs.List.{list_any};
 ghost use Rattle.std.specs.Str.{bytes_eq};
 ghost use Rattle.json.specs.Find.{as_object};
 ghost use Rattle.json.specs.Value.{items_view, members_view, value_view};
 ghost use Rattle.bidi_grammar.specs.Fits.{Fits, takes, without};
-ghost use Rattle.bidi_grammar.specs.Judges.{Judges, ItemsJudge, PartsJudge, RowsJudge, OthersJudge, gave_up, no_left};
+ghost use Rattle.bidi_grammar.specs.Judges.{Answer, Judges, ItemsJudge, PartsJudge, RowsJudge, OthersJudge, fit_in, no_left};
 ghost use Rattle.bidi_grammar.specs.Term as cddl;
 ghost use Rattle.bidi_grammar.specs.Term.{names_of, term_at};
-ghost use Rattle.bidi_grammar.specs.View.{IsGrounded, Judged, answer_of, are_within, draft_of, is_grounded, rest_is_within, row_of, rows_are_within, table, term_of};
+ghost use Rattle.bidi_grammar.specs.View.{IsGrounded, IsRight, Tells, answer_of, are_within, draft_of, is_grounded, rest_is_within, row_of, rows_are_within, table, term_of};
 
 use crate::draft::{Draft, Look, tags_with};
 use crate::reason::{PathStep, Verdict};
@@ -43,8 +43,10 @@ pub fn judge<'a, 'b>(
     requires grounded { IsGrounded (table terms.now) }
     // The place is in the table.
     requires there { n < length terms.now }
-    // With `Fits` the value fits. With a reason it does not, and judging it gives this reason. With `GaveUp` judging it takes more looks.
-    ensures judged { IfOk result (λ v. Judged (table terms.now) looks (value_view value.now) n v) }
+    // The verdict is what judging the value with so many looks ends with: it fits, it does not for this reason, or no look is left.
+    ensures answer { IfOk result (λ v. (a : Answer) × (Judges (table terms.now) looks (value_view value.now) n (term_at (table terms.now) n) a × Tells v a)) }
+    // With `Fits` the value fits, and with a reason it does not.
+    ensures exact { IfOk result (λ v. IsRight (table terms.now) (value_view value.now) n v) }
 {
     let mut draft = Draft::new();
     match judge_term(alloc, terms, value, n, looks, &mut draft)? {
@@ -71,9 +73,10 @@ pub fn fits<'a, 'b>(
     requires grounded { IsGrounded (table terms.now) }
     // The place is in the table.
     requires there { n < length terms.now }
-    // The result is true if the value fits, false if it does not, and `None` only if judging it takes more looks.
-    ensures exact { IfOk result (λ found. MatchOption found (Judges (table terms.now) looks (value_view value.now) n (term_at (table terms.now) n) gave_up)
-        (λ fits. IsTrue fits ↔ Fits (table terms.now) (value_view value.now) (term_at (table terms.now) n))) }
+    // The result is what judging the value with so many looks ends with; `None` if no look is left.
+    ensures answer { IfOk result (λ found. (a : Answer) × (Judges (table terms.now) looks (value_view value.now) n (term_at (table terms.now) n) a × (found ≡ fit_in a))) }
+    // A result is true exactly if the value fits.
+    ensures exact { IfOk result (λ found. IfSome found (λ fits. IsTrue fits ↔ Fits (table terms.now) (value_view value.now) (term_at (table terms.now) n))) }
 {
     let mut draft = Draft::new();
     match judge_term(alloc, terms, value, n, looks, &mut draft)? {

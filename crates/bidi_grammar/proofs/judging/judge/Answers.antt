@@ -1,8 +1,8 @@
-use Rattle.std.proofs.Common.{◌≡◌, subst, sym}
+use Rattle.std.proofs.Common.{subst}
 use Rattle.json.specs.Value.{value_view}
 use Rattle.bidi_grammar.specs.Term.{term_at}
 use Rattle.bidi_grammar.specs.Judges.{Judges, yes_left, no_left, gave_up}
-use Rattle.bidi_grammar.specs.View.{answer_of, draft_of, reason_of, table}
+use Rattle.bidi_grammar.specs.View.{answer_of, draft_of, table}
 use Rattle.bidi_grammar.proofs.ExactLemmas.{says}
 use Rattle.bidi_grammar.proofs.judging.judge.Goals as goal
 
@@ -11,8 +11,9 @@ returns-in-Yes c =
     let g = table c.args.terms.now in
     let u = value_view c.args.value.now in
     let n = c.args.n in
-    let j : Judges g c.args.looks u n (term_at g n) (yes_left c.in-Yes.field-0) = subst (λ a. Judges g c.args.looks u n (term_at g n) (answer_of a c.judge_term.new.draft)) c.in-Yes.is c.in_ok-judge_term.ensures in
-    record { judged = says j }
+    let left = c.in-Yes.field-0 in
+    let j : Judges g c.args.looks u n (term_at g n) (yes_left left) = subst (λ a. Judges g c.args.looks u n (term_at g n) (answer_of a c.judge_term.new.draft)) c.in-Yes.is c.in_ok-judge_term.ensures in
+    record { answer = (yes_left left, (j, tt)); exact = says j }
 
 pub returns-in-No : goal.returns-in-No
 returns-in-No c =
@@ -22,7 +23,7 @@ returns-in-No c =
     let r = draft_of c.judge_term.new.draft in
     let left = c.in-No.field-0 in
     let j : Judges g c.args.looks u n (term_at g n) (no_left left r) = subst (λ a. Judges g c.args.looks u n (term_at g n) (answer_of a c.judge_term.new.draft)) c.in-No.is c.in_ok-judge_term.ensures in
-    record { judged = (says j, (left, subst (λ x. Judges g c.args.looks u n (term_at g n) (no_left left x)) (sym c.in_ok-into_reason-in-No.ensures) j)) }
+    record { answer = (no_left left r, (j, c.in_ok-into_reason-in-No.ensures)); exact = says j }
 
 pub returns : goal.returns
 returns c =
@@ -30,4 +31,4 @@ returns c =
     let u = value_view c.args.value.now in
     let n = c.args.n in
     let j : Judges g c.args.looks u n (term_at g n) gave_up = subst (λ a. Judges g c.args.looks u n (term_at g n) (answer_of a c.judge_term.new.draft)) c.in-Over.is c.in_ok-judge_term.ensures in
-    record { judged = j }
+    record { answer = (gave_up, (j, tt)); exact = tt }
