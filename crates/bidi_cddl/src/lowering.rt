@@ -39,7 +39,9 @@ struct Table<'t, 's> {
     places: Vec<Option<usize>>,
     /// The place of each rule.
     rules: Vec<Option<usize>>,
-    /// Types that need a place.
+    /// Whether each type as written was asked for a place.
+    asked: Vec<bool>,
+    /// Types that need a place, each once.
     waiting: Vec<usize>,
 }
 
@@ -54,10 +56,12 @@ pub fn lower<'t, 's>(alloc: Global, written: &'s Written<'t>) -> Result<Loaded, 
         terms: Vec::new(alloc),
         places: Vec::new(alloc),
         rules: Vec::new(alloc),
+        asked: Vec::new(alloc),
         waiting: Vec::new(alloc),
     };
     for _ in 0..written.types.len() {
         table.places.push(None)?;
+        table.asked.push(false)?;
     }
     for _ in 0..written.rules.len() {
         table.rules.push(None)?;
@@ -68,10 +72,10 @@ pub fn lower<'t, 's>(alloc: Global, written: &'s Written<'t>) -> Result<Loaded, 
 impl<'t, 's> Table<'t, 's> {
     fn all(self) -> Result<Loaded, LoadFault> {
         let mut table = self;
+        let written = table.written;
         let mut rules = Vec::new(table.alloc);
         let mut path = Vec::new(table.alloc);
-        for i in 0..table.written.rules.len() {
-            let rule = &table.written.rules[i];
+        for (i, rule) in written.rules.iter().enumerate() {
             match table.type_of_rule(i) {
                 Some(_) => {
                     let place = table.rule(i, rule.at, &mut path, MAX_STEPS)?;
@@ -86,7 +90,7 @@ impl<'t, 's> Table<'t, 's> {
                 }
             }
         }
-        for next in 0..table.written.types.len() {
+        for next in 0..written.types.len() {
             let Some(place) = table.waiting.get(next).copied() else {
                 break;
             };
@@ -119,6 +123,15 @@ impl<'t, 's> Table<'t, 's> {
         }
         self.terms.push(term)?;
         Ok(place)
+    }
+
+    /// Asks for a place of a type as written.
+    fn ask(&mut self, place: usize) -> Result<(), LoadFault> {
+        if place < self.asked.len() && !self.asked[place] {
+            self.asked[place] = true;
+            self.waiting.push(place)?;
+        }
+        Ok(())
     }
 
     fn type_at(&self, place: usize) -> usize {
@@ -382,7 +395,7 @@ impl<'t, 's> Table<'t, 's> {
                     if has_row(&rows, &name) {
                         return self.named(at, "twice in one alternative stands the member", &name);
                     }
-                    self.waiting.push(*value)?;
+                    self.ask(*value)?;
                     rows.push(Row {
                         name,
                         need,
@@ -396,7 +409,7 @@ impl<'t, 's> Table<'t, 's> {
                     if rest.is_some() {
                         return self.wrong(at, "two kinds of further members");
                     }
-                    self.waiting.push(*value)?;
+                    self.ask(*value)?;
                     rest = Some(*value);
                 }
                 _ => return self.wrong(at, "no entry"),
@@ -572,7 +585,7 @@ impl<'t, 's> Table<'t, 's> {
             }
             _ => return self.wrong(array, "a group in an array is left out"),
         };
-        self.waiting.push(found)?;
+        self.ask(found)?;
         match occurs {
             Occurs::Once => {
                 parts.push(found)?;

@@ -512,20 +512,20 @@ impl<'t, 's> Parser<'t, 's> {
             self.advance();
             return Ok(Occurs::AtLeast(1));
         }
-        let mut least: usize = 0;
-        if let Token::Number(number) = self.peek(0) {
-            if !self.is_sign("*", 1) {
-                return Ok(Occurs::Once);
-            }
-            least = match number.parse::<usize>() {
-                Ok(least) => least,
-                Err(_) => return self.expected("a number of items"),
-            };
+        if self.is_sign("*", 0) {
             self.advance();
+            return Ok(Occurs::AtLeast(0));
         }
-        if !self.is_sign("*", 0) {
+        let Token::Number(number) = self.peek(0) else {
+            return Ok(Occurs::Once);
+        };
+        if !self.is_sign("*", 1) {
             return Ok(Occurs::Once);
         }
+        let Ok(least) = number.parse::<usize>() else {
+            return self.expected("a number of items");
+        };
+        self.advance();
         self.advance();
         if let Token::Number(_) = self.peek(0) {
             return self.wrong(self.at(), "an upper bound of an occurrence is left out");

@@ -1,9 +1,11 @@
-//! The grammar of WebDriver BiDi, as this project remembers the draft.
+//! The grammar of `rules/draft.cddl`.
 pub const DRAFT: &str = r#"
-; WebDriver BiDi as one grammar, written from memory after the draft (not copied: its text was not at hand).
-; Mark of a rule: `;+` sure (remembered, or confirmed by Firefox's Remote Agent, WPT or a recorded log), `;?` unsure, with the reason.
-; Rules of the profile's own modules follow the draft here, which is looser than the profile (no cap of 60 levels, other tags).
-; Roots: Command (what a remote end reads), Message (what a local end reads). bluetooth, userAgentClientHints, speculation: left out.
+; The grammar of WebDriver BiDi, written from memory after the draft.
+;
+; A rule marked `;+` is sure: remembered, or confirmed by Firefox's Remote Agent, the W3C's tests or a recorded log. A rule marked `;?` is
+; unsure, and says why. The rules of the profile's modules follow the draft here, which allows more than the profile.
+;
+; A remote end reads a Command, and a local end reads a Message. The modules bluetooth, userAgentClientHints and speculation are left out.
 
 ; ---- base
 

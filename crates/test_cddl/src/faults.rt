@@ -3,7 +3,7 @@ use crate::tables::check_faults;
 use std::test::Fail;
 
 const FAULTS: &str = r##"
-1:5 expected a type, found the end | a =~
+1:4 expected a type, found the end | a =
 1:5 no rule has the name b | a = b
 1:7 no group has the name b | a = { b }
 1:6 a range of anything but two numbers is left out | a = 1..text
