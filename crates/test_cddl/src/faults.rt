@@ -15,7 +15,6 @@ const FAULTS: &str = r##"
 1:11 nothing but itself is the rule a | a = b b = a
 1:7 a key other than a string or text is left out | a = { * int => text }
 1:5 tags are left out | a = #6.1(text)
-
 1:5 enumerations of a group are left out | a = &b
 1:2 generics are left out | a<t> = text
 1:1 sockets are left out | $a = text
