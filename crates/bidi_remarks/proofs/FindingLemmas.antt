@@ -29,6 +29,7 @@ use Rattle.bidi_remarks.specs.Explaining.{Explains, Telling, is_refused, telling
 use Rattle.bidi_remarks.specs.declared.bad_text.BadText.TheVariants.{ByteOrderMark, NotJson, NoUtf8, TooLarge, TooLong, NoDirection}
 use Rattle.bidi_remarks.specs.declared.bad_text.BadText.{BadText}
 use Rattle.bidi_remarks.specs.declared.texts.Form.{Form}
+use Rattle.bidi_syntax.specs.declared.fault.Fault.{Fault}
 
 -- the text that a line is has its tree
 pub has_tree : (line text : List ℕ) (t : Node) → (text ≡ line) × IsUtf8 line → tree_of_text None text ≡ Some t → HasTree line t
@@ -47,11 +48,20 @@ refused side line (Some s) e h = (string_bytes s, h)
 -- that is wrong with a line that has no tree
 pub bad_line : (side : Side) (line : List ℕ) (b : BadText) → HasNoTree line b → IsTrouble side line (bad b)
 bad_line side line (NoUtf8 place) (none, (front, valid, at)) = subst (λ (n : ℕ). IsTrouble side line (bad (NoUtf8 n))) (sym at) (is_no_text front none valid)
-bad_line side line NotJson h = is_not_json h.0 h.1
+bad_line side line (NotJson fault) (is, none, e) = subst (λ (f : Option Fault). IsTrouble side line (bad (NotJson f))) (sym e) (is_not_json is none)
 bad_line side line ByteOrderMark h = absurd h
 bad_line side line TooLong h = absurd h
 bad_line side line TooLarge h = absurd h
 bad_line side line NoDirection h = absurd h
+
+-- which has no tree
+pub treeless : (line : List ℕ) (b : BadText) → HasNoTree line b → (t : Node) → HasTree line t → ⊥
+treeless line (NoUtf8 place) (none, at) t (is, read) = none is
+treeless line (NotJson fault) (is, none, e) t (also, read) = absurd cc
+treeless line ByteOrderMark h t has = h
+treeless line TooLong h t has = h
+treeless line TooLarge h t has = h
+treeless line NoDirection h t has = h
 
 -- ---- lines of a local end
 
@@ -125,12 +135,12 @@ no_tree side line b h = (not_taken side b h, bad_line side line b h)
   where
     not_taken : (side : Side) (b : BadText) → HasNoTree line b → (why : List ℕ) × Refuses side line (Some why)
     not_taken Local (NoUtf8 place) (none, at) = verdict_refused line None InvalidArgument (record { text = λ is. absurd (none is); no_text = λ _. refl })
-    not_taken Local NotJson (is, none) = verdict_refused line None InvalidArgument (record {
+    not_taken Local (NotJson fault) (is, none, e) = verdict_refused line None InvalidArgument (record {
       text = λ _. verdict.is_not_json (no_json_tree line none);
       no_text = λ _. refl;
     })
     not_taken Remote (NoUtf8 place) (none, at) = (codes "not json", (show.Refused (codes "not json"), show.is_no_text none, refl))
-    not_taken Remote NotJson (is, none) = (codes "not json", (show.Refused (codes "not json"), show.is_not_json is none, refl))
+    not_taken Remote (NotJson fault) (is, none, e) = (codes "not json", (show.Refused (codes "not json"), show.is_not_json is none, refl))
     not_taken side ByteOrderMark h = absurd h
     not_taken side TooLong h = absurd h
     not_taken side TooLarge h = absurd h

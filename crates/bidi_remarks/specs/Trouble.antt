@@ -27,8 +27,29 @@ use Rattle.bidi_remarks.specs.declared.misfit.Wants.TheVariants.{Whole, Short}
 use Rattle.bidi_remarks.specs.declared.finding.Trouble as declared_trouble
 use Rattle.bidi_remarks.specs.declared.finding.Trouble.TheVariants as code
 use Rattle.bidi_shape.specs.Limits.{most_bytes}
+use Rattle.bidi_syntax.specs.Faults.{fault_of}
+use Rattle.bidi_syntax.specs.Surrogates.{mended}
+use Rattle.bidi_syntax.specs.Words.{wants_words}
+use Rattle.bidi_syntax.specs.declared.fault.Fault.{Fault}
+use Rattle.bidi_syntax.specs.declared.fault.Fault.TheVariants.{Syntax, Levels, LoneSurrogate, LargeNumber}
 
 -- ---- lines that are no text to judge
+
+-- the words for why a text is not read as JSON
+abbrev pub json_words : Option Fault → List ℕ
+json_words None = codes "not json"
+json_words (Some (Syntax wants place)) = codes "not json: wants " ++ wants_words wants ++ codes " at byte " ++ decimal place
+json_words (Some (Levels levels)) = decimal levels ++ codes " levels of nesting, at most 127"
+json_words (Some (LoneSurrogate place)) = codes "lone surrogate at byte " ++ decimal place
+json_words (Some (LargeNumber place)) = codes "number out of range at byte " ++ decimal place
+
+-- the same without places and counts
+abbrev pub json_cause : Option Fault → List ℕ
+json_cause None = codes "not json"
+json_cause (Some (Syntax wants place)) = codes "not json"
+json_cause (Some (Levels levels)) = codes "levels of nesting, at most 127"
+json_cause (Some (LoneSurrogate place)) = codes "lone surrogate"
+json_cause (Some (LargeNumber place)) = codes "number out of range"
 
 -- the words for one
 abbrev pub bad_words : BadText → List ℕ
@@ -36,7 +57,7 @@ bad_words ByteOrderMark = codes "byte order mark"
 bad_words (NoUtf8 place) = codes "no UTF-8 at byte " ++ decimal place
 bad_words TooLong = codes "too long"
 bad_words TooLarge = codes "more than 1048576 bytes"
-bad_words NotJson = codes "not json"
+bad_words (NotJson fault) = json_words fault
 bad_words NoDirection = codes "no direction"
 
 -- the same without the place
@@ -45,13 +66,13 @@ bad_cause ByteOrderMark = codes "byte order mark"
 bad_cause (NoUtf8 place) = codes "no UTF-8"
 bad_cause TooLong = codes "too long"
 bad_cause TooLarge = codes "more than 1048576 bytes"
-bad_cause NotJson = codes "not json"
+bad_cause (NotJson fault) = json_cause fault
 bad_cause NoDirection = codes "no direction"
 
--- so many bytes at the front of a line are characters and the next is none, or its text is no JSON: so it has no tree
+-- so many bytes at the front of a line are characters and the next is none, or its text is not read as JSON, for this reason: so it has no tree
 abbrev pub HasNoTree : List ℕ → BadText → Type 0
 HasNoTree line (NoUtf8 place) = (IsUtf8 line → ⊥) × ((front : ℕ) × IsValidUpTo line front × (place ≡ front + 1))
-HasNoTree line NotJson = IsUtf8 line × (tree_of_text None line ≡ None)
+HasNoTree line (NotJson fault) = IsUtf8 line × (tree_of_text None line ≡ None) × (fault ≡ fault_of line)
 HasNoTree line b = ⊥
 
 -- ---- trees that do not fit the rule of their end
@@ -164,10 +185,16 @@ abbrev pub trouble_of : declared_trouble.Trouble → Trouble
 trouble_of (code.Bad b) = bad b
 trouble_of (code.NoFit m) = no_fit (misfit_of m)
 
--- the id in a text that is no message
-abbrev pub id_of : Trouble → Option ℕ
-id_of (bad b) = None
-id_of (no_fit m) = m.id
+-- the id of the tree that a text has with U+FFFD for each lone surrogate, if it has one
+pub data HasMendedId (text : List ℕ) : Option ℕ → Type 0 where
+  of_tree : (t : Node) → HasTree (mended text) t → HasMendedId text (echoed_id t)
+  of_none : ((t : Node) → HasTree (mended text) t → ⊥) → HasMendedId text None
+
+-- the id in a text that is no message: that of its tree; a text with a lone surrogate has the id that it has with U+FFFD there
+abbrev pub IsIdIn : List ℕ → Trouble → Option ℕ → Type 0
+IsIdIn text (no_fit m) id = id ≡ m.id
+IsIdIn text (bad (NotJson (Some (LoneSurrogate place)))) id = HasMendedId text id
+IsIdIn text (bad b) id = id ≡ None
 
 -- the text does not fit because its id is a number with a fraction, an exponent or out of range
 abbrev pub has_odd_id : Trouble → Bool
@@ -187,7 +214,7 @@ is_too_large Remote line = false
 pub data IsTrouble (side : Side) (line : List ℕ) : Trouble → Type 0 where
   -- so many bytes at its front are characters, and the next is none
   is_no_text : (front : ℕ) → (IsUtf8 line → ⊥) → IsValidUpTo line front → IsTrouble side line (bad (NoUtf8 (front + 1)))
-  is_not_json : IsUtf8 line → tree_of_text None line ≡ None → IsTrouble side line (bad NotJson)
+  is_not_json : IsUtf8 line → tree_of_text None line ≡ None → IsTrouble side line (bad (NotJson (fault_of line)))
   is_large : (t : Node) → HasTree line t → is_too_large side line ≡ true → IsTrouble side line (bad TooLarge)
   fits_none : (t : Node) (m : Misfit) → HasTree line t → is_too_large side line ≡ false → HasMisfit side t m → IsTrouble side line (no_fit m)
 

@@ -5,14 +5,16 @@ ghost use Rattle.bidi_shape.specs.Term.{rule};
 ghost use Rattle.bidi_shape.specs.Fits.{Fits};
 ghost use Rattle.bidi_show.specs.MessageLines.{HasTree, Refuses};
 ghost use Rattle.bidi_lines.specs.declared.side.Side.TheVariants.{Local, Remote};
-ghost use Rattle.bidi_remarks.specs.Trouble.{HasMisfit, HasNoTree, HasTrouble, HasTroubleAt, IsTrouble, begins_with_mark, has_odd_id, id_of, is_beyond, is_too_large, misfit_of, rule_of, trouble_of};
+ghost use Rattle.bidi_messages.specs.Verdict.{echoed_id};
+ghost use Rattle.bidi_remarks.specs.Trouble.{HasMendedId, HasMisfit, HasNoTree, HasTrouble, HasTroubleAt, IsIdIn, IsTrouble, begins_with_mark, has_odd_id, is_beyond, is_too_large, misfit_of, rule_of, trouble_of};
 
 use crate::bad_text::BadText;
-use crate::misfit::{Misfit, find_misfit};
+use crate::misfit::{Misfit, find_misfit, id};
 use bidi_lines::Side;
 use bidi_messages::Command;
 use bidi_shape::{MAX_BYTES, Shape, ShapeFault};
 use bidi_show::value_refusal;
+use bidi_syntax::{Fault, fault_of, mended};
 use bidi_tree::{JsUint, ReadFault, outline_parsed, parse};
 use json::{Scratch, Value};
 use std::alloc::{AllocError, Global};
@@ -144,15 +146,50 @@ fn is_too_large(side: Side, text: &[u8]) -> bool
     }
 }
 
-/// The id in a text that is no message. Takes no memory.
-pub fn id_of(why: &Trouble) -> Option<JsUint>
-    // The id is that of the tree that does not fit; a text without a tree has none.
-    ensures { option_map (λ n. n.value) result ≡ id_of (trouble_of why.now) }
+/// The id in a text that is no message, for this reason.
+///
+/// # Errors
+/// No memory: an allocation failed.
+pub fn id_in(
+    alloc: Global,
+    text: &[u8],
+    why: &Trouble,
+    scratch: &mut Scratch,
+) -> Result<Option<JsUint>, AllocError>
+    // The id is that of the tree that does not fit. A text with a lone surrogate has the id that it has with U+FFFD there; any other text without a
+    // tree has none.
+    ensures { IfOk result (λ id. IsIdIn text.now (trouble_of why.now) (option_map (λ n. n.value) id)) }
 {
     match why {
-        Trouble::Bad(_) => None,
-        Trouble::NoFit(misfit) => misfit.id,
+        Trouble::NoFit(misfit) => Ok(misfit.id),
+        Trouble::Bad(BadText::NotJson(Some(Fault::LoneSurrogate(_)))) => {
+            mended_id(alloc, text, scratch)
+        }
+        Trouble::Bad(_) => Ok(None),
     }
+}
+
+// The id in a text with U+FFFD for each lone surrogate.
+fn mended_id(
+    alloc: Global,
+    text: &[u8],
+    scratch: &mut Scratch,
+) -> Result<Option<JsUint>, AllocError>
+    ensures { IfOk result (λ id. HasMendedId text.now (option_map (λ n. n.value) id)) }
+{
+    let mended = mended(alloc, text)?;
+    match value_in(alloc, &mended, scratch)? {
+        Ok(value) => value_id(alloc, &value),
+        Err(_) => Ok(None),
+    }
+}
+
+// The id in a value, if it is a js-uint.
+fn value_id(alloc: Global, value: &Value<'_>) -> Result<Option<JsUint>, AllocError>
+    ensures { IfOk result (λ found. option_map (λ n. n.value) found ≡ echoed_id (parsed value.now)) }
+{
+    let outline = outline_parsed(alloc, value)?;
+    Ok(id(&outline))
 }
 
 /// Whether a text does not fit because its id is a number with a fraction, an exponent or out of range. Takes no memory.
@@ -191,7 +228,7 @@ fn value_in<'a>(
     };
     match parse(alloc, text, None, scratch) {
         Ok(value) => Ok(Ok(value)),
-        Err(ReadFault::NotJson) => Ok(Err(BadText::NotJson)),
+        Err(ReadFault::NotJson) => Ok(Err(BadText::NotJson(fault_of(alloc, line)?))),
         Err(ReadFault::TooLong) => unreachable!(),
         Err(ReadFault::NoMemory) => Err(AllocError),
     }

@@ -17,7 +17,7 @@ mod telling;
 mod texts;
 
 pub use bad_text::BadText;
-pub use finding::{Trouble, begins_with_mark, has_odd_id, id_of, trouble_in};
+pub use finding::{Trouble, begins_with_mark, has_odd_id, id_in, trouble_in};
 pub use misfit::Misfit;
 pub use remark::{Remark, bad_line, id_waits, no_message, stray, too_many, unanswered_line};
 pub use result_misfit::bad_result;

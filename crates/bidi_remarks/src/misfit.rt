@@ -131,8 +131,8 @@ fn rule_name(name: Option<Name>) -> Option<&'static str>
     }
 }
 
-// The id of a tree, where it is a js-uint.
-fn id(tree: &Outline<'_>) -> Option<JsUint>
+/// The id of a tree, where it is a js-uint.
+pub(crate) fn id(tree: &Outline<'_>) -> Option<JsUint>
     ensures { option_map (λ n. n.value) result ≡ echoed_id (outline_node tree.now) }
 {
     match member(tree, "id") {

@@ -29,7 +29,7 @@ use Rattle.bidi_why.specs.Conversing.{answered, is_no_message, kept_of, lines_le
 use Rattle.bidi_remarks.specs.Results.{HasBadResult, TellsBadResult}
 use Rattle.bidi_why.specs.Hearing.{Notes, Takes}
 use Rattle.bidi_why.specs.Hearing as hearing
-use Rattle.bidi_remarks.specs.Trouble.{IsTrouble, Trouble, begins_with_mark, id_of}
+use Rattle.bidi_remarks.specs.Trouble.{IsIdIn, IsTrouble, Trouble, begins_with_mark}
 use Rattle.bidi_why.specs.Input.{IsOf}
 use Rattle.bidi_remarks.specs.declared.bad_text.BadText.TheVariants.{ByteOrderMark, NoDirection, TooLong}
 use Rattle.bidi_why.specs.declared.next_line.Line.{Line}
@@ -452,11 +452,10 @@ heard_message n s s' line text t view (Err x) is tree h = tt
 
 -- one that is none is heard as it is told, and what it answers has its answer
 pub heard_none : (n : ℕ) (s s' : Standing) (line brief : List ℕ) (why : Trouble) (id answers : Option ℕ) (o : Remark) → Refuses Remote line (Some brief)
-    → IsTrouble Remote line why → id ≡ id_of why → answers ≡ answered id s → s' ≡ with_answer id s → o ≡ no_message answers brief why
+    → IsTrouble Remote line why → IsIdIn line why id → answers ≡ answered id s → s' ≡ with_answer id s → o ≡ no_message answers brief why
     → Hears n s line Remote (Some o) s'
 heard_none n s s' line brief why id answers o refuses trouble is told after same =
-    subst (λ (z : Standing). Hears n s line Remote (Some o) z)
-    (sym (after ∙ ap (λ (x : Option ℕ). with_answer x s) is))
-    (subst (λ (x : Remark). Hears n s line Remote (Some x) (with_answer (id_of why) s)) (sym same)
-    (subst (λ (a : Option ℕ). Hears n s line Remote (Some (no_message a brief why)) (with_answer (id_of why) s))
-    (sym (told ∙ ap (λ (x : Option ℕ). answered x s) is)) (is_no_message brief why refuses trouble)))
+    subst (λ (z : Standing). Hears n s line Remote (Some o) z) (sym after)
+    (subst (λ (x : Remark). Hears n s line Remote (Some x) (with_answer id s)) (sym same)
+    (subst (λ (a : Option ℕ). Hears n s line Remote (Some (no_message a brief why)) (with_answer id s)) (sym told)
+    (is_no_message brief why id refuses trouble is)))

@@ -28,7 +28,7 @@ use Rattle.bidi_lines.specs.declared.side.Side.TheVariants.{Local, Remote}
 use Rattle.bidi_show.specs.MessageLines.{HasVerdict, Refuses, id_text}
 use Rattle.bidi_blame.specs.Blames.{Blames}
 use Rattle.bidi_blame.specs.Reason.{Reason}
-use Rattle.bidi_remarks.specs.Trouble.{IsTrouble, Trouble, has_odd_id, id_of, begins_with_mark}
+use Rattle.bidi_remarks.specs.Trouble.{IsTrouble, Trouble, has_odd_id, IsIdIn, begins_with_mark}
 use Rattle.bidi_why.specs.Telling.{Whole, report_run}
 use Rattle.bidi_why.specs.declared.ids.Kept.{Kept}
 use Rattle.bidi_why.specs.declared.ids.Kept.TheVariants.{Any, Id, Null}
@@ -186,8 +186,8 @@ pub data Hears (n : ℕ) (s : Standing) (text : List ℕ) : Side → Option Rema
   is_message : (t : Node) (meaning : Meaning) (o : Option Remark) (s' : Standing) → IsUtf8 text → tree_of text ≡ Some t → Means s.waiting text meaning
       → IsTold s t meaning o s' → Hears n s text Remote o s'
   -- a text that is no message may answer a command for all that
-  is_no_message : (brief : List ℕ) (why : Trouble) → Refuses Remote text (Some brief) → IsTrouble Remote text why
-      → Hears n s text Remote (Some (no_message (answered (id_of why) s) brief why)) (with_answer (id_of why) s)
+  is_no_message : (brief : List ℕ) (why : Trouble) (id : Option ℕ) → Refuses Remote text (Some brief) → IsTrouble Remote text why → IsIdIn text why id
+      → Hears n s text Remote (Some (no_message (answered id s) brief why)) (with_answer id s)
 
 -- what is told of the line of this number, and what stands behind it
 pub data HearsLine (n : ℕ) (s : Standing) (line : List ℕ) : Option Remark → Standing → Type 0 where

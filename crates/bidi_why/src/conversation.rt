@@ -21,7 +21,7 @@ ghost use Rattle.bidi_why.specs.Hearing.{IsJudged, IsSender, IsStray, Notes, Tak
 ghost use Rattle.bidi_why.specs.Input.{IsOf};
 ghost use Rattle.bidi_remarks.specs.Remark as told;
 ghost use Rattle.bidi_remarks.specs.Remark.{remark_of};
-ghost use Rattle.bidi_remarks.specs.Trouble.{id_of, trouble_of};
+ghost use Rattle.bidi_remarks.specs.Trouble.{trouble_of};
 
 use crate::explainer::Explainer;
 use crate::ids::{Kept, forget, is_among, kept_of, remove_first};
@@ -35,7 +35,7 @@ use bidi_messages::{
     read_message_with,
 };
 use bidi_remarks::{
-    BadText, Form, Remark, Told, bad_line, bad_result, begins_with_mark, id_of, id_waits,
+    BadText, Form, Remark, Told, bad_line, bad_result, begins_with_mark, id_in, id_waits,
     is_remark_beyond, no_message, stray, tell_remark, too_many, trouble_in,
 };
 use bidi_shape::Shape;
@@ -297,7 +297,8 @@ impl Conversation {
         ensures heard { (n : ℕ) → IfOk result (λ found. Hears n (standing_of self.old) line.now Remote (option_map remark_of found) (standing_of self.new)) }
     {
         let why = trouble_in(alloc, Side::Remote, line, self.scratch.as_mut())?;
-        let answers = self.answer(alloc, id_of(&why))?;
+        let id = id_in(alloc, line, &why, self.scratch.as_mut())?;
+        let answers = self.answer(alloc, id)?;
         Ok(Some(no_message(alloc, answers, brief, why)?))
     }
 

@@ -13,8 +13,8 @@ returns-in-Err c =
 pub returns-in-Ok-parse : goal.returns-in-Ok-parse
 returns-in-Ok-parse c = has_tree c.args.line.now c.in-Ok.text.now (parsed c.in-Ok-parse.value) c.in-Ok.ensures.cases c.in-Ok-parse.ensures.ok
 
-pub returns-in-Err-NotJson : goal.returns-in-Err-NotJson
-returns-in-Err-NotJson c =
+pub returns-in_ok-fault_of-in-Err-NotJson : goal.returns-in_ok-fault_of-in-Err-NotJson
+returns-in_ok-fault_of-in-Err-NotJson c =
     let text = c.in-Ok.ensures.cases in
     let refused = c.in-Err-NotJson.ensures.not_json (ap Err c.in-Err-NotJson.field-0-is) in
-    (text.1, subst (λ (s : List ℕ). tree_of_text None s ≡ None) text.0 refused.1)
+    (text.1, subst (λ (s : List ℕ). tree_of_text None s ≡ None) text.0 refused.1, c.in_ok-fault_of-in-Err-NotJson.ensures)
