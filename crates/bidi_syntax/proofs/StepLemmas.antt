@@ -1,7 +1,7 @@
 -- One byte more of what is left of a text.
-use Rattle.std.proofs.Common.{◌≡◌, ◌∙◌, ℕ, ◌+◌, ◌-◌, ◌<◌, Bool, List, ◌∷◌, length, drop, get_or, ap, sym, if◌then◌else◌, ◌==◌, ◌&&◌, Option, Some}
+use Rattle.std.proofs.Common.{◌≡◌, ◌∙◌, ℕ, ◌+◌, ◌-◌, ◌<◌, ◌≤◌, Bool, List, [], ◌∷◌, ◌++◌, append_assoc, arith, length, drop, get_or, ap, ap₂, sym, if◌then◌else◌, ◌==◌, ◌&&◌, Option, Some}
 use Rattle.std.proofs.lemmas.List.{drop_more}
-use Rattle.bidi_syntax.specs.Surrogates.{is_lone, lone_from, mended_from, replacement, rest_of_character}
+use Rattle.bidi_syntax.specs.Surrogates.{is_lone, lone_from, mended, mended_from, replacement, rest_of_character}
 use Rattle.bidi_syntax.specs.Numbers.{begins_number, is_large, large_from, next_mode}
 use Rattle.bidi_syntax.specs.declared.numbers.Mode.{Mode}
 
@@ -34,3 +34,19 @@ mended_from_next r left text i lt =
     let bs = drop (i + 1) text in
     ap (mended_from r left) e
     ∙ ap (λ (s : List ℕ). if left == 0 then b ∷ mended_from (is_lone s) (rest_of_character s) bs else (if r then replacement left b else b) ∷ mended_from r (left - 1) bs) (sym e)
+
+-- what was written of a text, when a character begins
+pub mended_on : (text done done' : List ℕ) (r : Bool) (left i : ℕ) (rest : List ℕ) (lone : Bool) (more : ℕ) → i < length text → left ≤ 0 → rest ≡ drop i text
+    → done' ≡ done ++ get_or text i 0 ∷ [] → lone ≡ is_lone rest → more ≡ rest_of_character rest → done ++ mended_from r left (drop i text) ≡ mended text
+    → done' ++ mended_from lone more (drop (i + 1) text) ≡ mended text
+mended_on text done done' r left i rest lone more lt none back grown lone_is more_is before =
+    let b = get_or text i 0 in
+    let bs = drop (i + 1) text in
+    let zero : left ≡ 0 = omega (arith, none) in
+    let written : mended_from lone more bs ≡ mended_from (is_lone (drop i text)) (rest_of_character (drop i text)) bs =
+    ap₂ (λ (l : Bool) (k : ℕ). mended_from l k bs) (lone_is ∙ ap is_lone back) (more_is ∙ ap rest_of_character back) in
+    let here : mended_from r left (drop i text) ≡ b ∷ mended_from (is_lone (drop i text)) (rest_of_character (drop i text)) bs =
+    ap (λ (k : ℕ). mended_from r k (drop i text)) zero ∙ mended_from_next r 0 text i lt in
+    ap (λ (xs : List ℕ). xs ++ mended_from lone more bs) grown
+    ∙ (append_assoc done (b ∷ []) (mended_from lone more bs)
+    ∙ (ap (λ (m : List ℕ). done ++ b ∷ m) written ∙ (ap (λ (m : List ℕ). done ++ m) (sym here) ∙ before)))

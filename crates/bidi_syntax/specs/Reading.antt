@@ -38,7 +38,7 @@ beginning = record { state = At place.Value; containers = []; levels = 0 }
 
 -- the innermost of what is open
 abbrev pub innermost : List Container → Option Container
-innermost containers = slice_get open (length open - 1)
+innermost containers = slice_get containers (length containers - 1)
 
 -- the place after the bracket that opens
 abbrev pub first_of : Container → State

@@ -22,11 +22,11 @@ pub fn mended(alloc: Global, text: &[u8]) -> Result<Vec<u8>, AllocError>
         if left > 0 {
             bytes.push(byte_in(replaces, left, text[place]))?;
             left -= 1;
-        } else {
-            bytes.push(text[place])?;
-            replaces = is_lone(rest);
-            left = rest_of_character(rest);
+            continue;
         }
+        bytes.push(text[place])?;
+        replaces = is_lone(rest);
+        left = rest_of_character(rest);
     }
     Ok(bytes)
 }
