@@ -6,6 +6,7 @@ use Rattle.std.specs.Global.{Vec}
 use Rattle.std.specs.Result.{result_err}
 use Rattle.std.proofs.lemmas.Bool.Decides.{nat_tests}
 use Rattle.bidi_tree.specs.Node.{Node}
+use Rattle.bidi_tree.specs.declared.number.JsUint.{JsUint}
 use Rattle.bidi_tree.specs.Text.{tree_of, tree_of_text}
 use Rattle.bidi_shape.specs.Fits.{Fits}
 use Rattle.bidi_shape.specs.Name.{command}
@@ -16,7 +17,7 @@ use Rattle.bidi_shape.specs.declared.fault.ShapeFault.TheVariants.{NoFit, NoMemo
 use Rattle.bidi_params.specs.declared.error_code.ErrorCode.{ErrorCode}
 use Rattle.bidi_params.specs.declared.error_code.ErrorCode.TheVariants.{InvalidArgument}
 use Rattle.bidi_messages.specs.Verdict as verdict
-use Rattle.bidi_messages.specs.Verdict.{command_tree}
+use Rattle.bidi_messages.specs.Verdict.{command_tree, echoed_id}
 use Rattle.bidi_messages.specs.contracts.command.CommandShape.TheImpl.{ghosts}
 use Rattle.bidi_messages.specs.declared.command.Command.{Command}
 use Rattle.bidi_show.specs.MessageLines as show
@@ -24,7 +25,7 @@ use Rattle.bidi_show.specs.MessageLines.{HasTree, Refuses}
 use Rattle.bidi_lines.specs.declared.side.Side.{Side}
 use Rattle.bidi_lines.specs.declared.side.Side.TheVariants.{Local, Remote}
 use Rattle.bidi_remarks.specs.Trouble.{HasMisfit, HasNoTree, HasTrouble, IsTrouble, IsTroubleAt, Misfit, Trouble, bad, no_fit, is_too_large}
-use Rattle.bidi_remarks.specs.Trouble.{fits_none, is_no_text, is_not_json}
+use Rattle.bidi_remarks.specs.Trouble.{HasId, fits_none, is_no_text, is_not_json, of_tree}
 use Rattle.bidi_remarks.specs.Explaining.{Explains, Telling, is_refused, telling}
 use Rattle.bidi_remarks.specs.declared.bad_text.BadText.TheVariants.{ByteOrderMark, NotJson, NoUtf8, TooLarge, TooLong, NoDirection}
 use Rattle.bidi_remarks.specs.declared.bad_text.BadText.{BadText}
@@ -62,6 +63,12 @@ treeless line ByteOrderMark h t has = h
 treeless line TooLong h t has = h
 treeless line TooLarge h t has = h
 treeless line NoDirection h t has = h
+
+-- the id of a line that is read as a value
+pub id_found : {E : Type 0} (line : List ℕ) (t : Node) (r : Result (Option JsUint) E) → HasTree line t
+    → IfOk r (λ found. option_map (λ n. n.value) found ≡ echoed_id t) → IfOk r (λ id. HasId line (option_map (λ n. n.value) id))
+id_found line t (Ok found) has is = subst (HasId line) (sym is) (of_tree t has)
+id_found line t (Err e) has is = tt
 
 -- ---- lines of a local end
 

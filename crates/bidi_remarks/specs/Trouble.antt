@@ -185,15 +185,15 @@ abbrev pub trouble_of : declared_trouble.Trouble → Trouble
 trouble_of (code.Bad b) = bad b
 trouble_of (code.NoFit m) = no_fit (misfit_of m)
 
--- the id of the tree that a text has with U+FFFD for each lone surrogate, if it has one
-pub data HasMendedId (text : List ℕ) : Option ℕ → Type 0 where
-  of_tree : (t : Node) → HasTree (mended text) t → HasMendedId text (echoed_id t)
-  of_none : ((t : Node) → HasTree (mended text) t → ⊥) → HasMendedId text None
+-- The id of the tree of a line; none if the line has no tree.
+pub data HasId (line : List ℕ) : Option ℕ → Type 0 where
+  of_tree : (t : Node) → HasTree line t → HasId line (echoed_id t)
+  of_none : ((t : Node) → HasTree line t → ⊥) → HasId line None
 
 -- the id in a text that is no message: that of its tree; a text with a lone surrogate has the id that it has with U+FFFD there
 abbrev pub IsIdIn : List ℕ → Trouble → Option ℕ → Type 0
 IsIdIn text (no_fit m) id = id ≡ m.id
-IsIdIn text (bad (NotJson (Some (LoneSurrogate place)))) id = HasMendedId text id
+IsIdIn text (bad (NotJson (Some (LoneSurrogate place)))) id = HasId (mended text) id
 IsIdIn text (bad b) id = id ≡ None
 
 -- the text does not fit because its id is a number with a fraction, an exponent or out of range

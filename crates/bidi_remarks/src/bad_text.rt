@@ -30,10 +30,8 @@ impl BadText {
         match self {
             BadText::NoUtf8(place) => format!(in alloc; "no UTF-8 at byte {place}"),
             BadText::NotJson(fault) => json_words(alloc, fault),
-            BadText::ByteOrderMark
-            | BadText::TooLong
-            | BadText::TooLarge
-            | BadText::NoDirection => String::from_str(alloc, self.cause()),
+            BadText::ByteOrderMark | BadText::TooLong | BadText::TooLarge | BadText::NoDirection =>
+                String::from_str(alloc, self.cause()),
         }
     }
 
@@ -65,9 +63,7 @@ fn json_words(alloc: Global, fault: Option<Fault>) -> Result<String, AllocError>
         Some(Fault::Levels(levels)) => {
             format!(in alloc; "{levels} levels of nesting, at most 127")
         }
-        Some(Fault::LoneSurrogate(place)) => {
-            format!(in alloc; "lone surrogate at byte {place}")
-        }
+        Some(Fault::LoneSurrogate(place)) => { format!(in alloc; "lone surrogate at byte {place}") }
         Some(Fault::LargeNumber(place)) => {
             format!(in alloc; "number out of range at byte {place}")
         }

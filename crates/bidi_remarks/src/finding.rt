@@ -6,7 +6,8 @@ ghost use Rattle.bidi_shape.specs.Fits.{Fits};
 ghost use Rattle.bidi_show.specs.MessageLines.{HasTree, Refuses};
 ghost use Rattle.bidi_lines.specs.declared.side.Side.TheVariants.{Local, Remote};
 ghost use Rattle.bidi_messages.specs.Verdict.{echoed_id};
-ghost use Rattle.bidi_remarks.specs.Trouble.{HasMendedId, HasMisfit, HasNoTree, HasTrouble, HasTroubleAt, IsIdIn, IsTrouble, begins_with_mark, has_odd_id, is_beyond, is_too_large, misfit_of, rule_of, trouble_of};
+ghost use Rattle.bidi_syntax.specs.Surrogates.{mended};
+ghost use Rattle.bidi_remarks.specs.Trouble.{HasId, HasMisfit, HasNoTree, HasTrouble, HasTroubleAt, IsIdIn, IsTrouble, begins_with_mark, has_odd_id, is_beyond, is_too_large, misfit_of, rule_of, trouble_of};
 
 use crate::bad_text::BadText;
 use crate::misfit::{Misfit, find_misfit, id};
@@ -175,12 +176,19 @@ fn mended_id(
     text: &[u8],
     scratch: &mut Scratch,
 ) -> Result<Option<JsUint>, AllocError>
-    ensures { IfOk result (λ id. HasMendedId text.now (option_map (λ n. n.value) id)) }
+    ensures { IfOk result (λ id. HasId (mended text.now) (option_map (λ n. n.value) id)) }
 {
     let mended = mended(alloc, text)?;
-    match value_in(alloc, &mended, scratch)? {
+    line_id(alloc, &mended, scratch)
+}
+
+// The id in a line, if it has a tree with one.
+fn line_id(alloc: Global, line: &[u8], scratch: &mut Scratch) -> Result<Option<JsUint>, AllocError>
+    ensures { IfOk result (λ id. HasId line.now (option_map (λ n. n.value) id)) }
+{
+    match value_in(alloc, line, scratch)? {
         Ok(value) => value_id(alloc, &value),
-        Err(_) => Ok(None),
+        Err(_bad) => Ok(None),
     }
 }
 

@@ -35,7 +35,11 @@ pub fn mended(alloc: Global, text: &[u8]) -> Result<Vec<u8>, AllocError>
 fn byte_in(replaces: bool, left: usize, byte: u8) -> u8
     ensures { result ≡ (if replaces then replacement left byte else byte) }
 {
-    if replaces { replacement(left, byte) } else { byte }
+    if replaces {
+        replacement(left, byte)
+    } else {
+        byte
+    }
 }
 
 // The byte of an escape of U+FFFD that so many more follow, where this one was.

@@ -92,5 +92,7 @@ fn behind_minus(bytes: &[u8]) -> Option<&[u8]>
 fn is_large_from(is_negative: bool, digits: &[u8]) -> bool
     ensures { result ≡ is_large_from is_negative digits.now }
 {
-    !Numeral::scan(digits).to_float::<f64>(is_negative).is_finite()
+    !Numeral::scan(digits)
+        .to_float::<f64>(is_negative)
+        .is_finite()
 }

@@ -67,7 +67,9 @@ fn is_surrogate(bytes: &[u8], place: usize) -> bool
     requires { place ≤ 6 }
     ensures { result ≡ is_surrogate bytes.now place }
 {
-    byte_at(bytes, place) == b'\\' && byte_at(bytes, place + 1) == b'u' && is_d(byte_at(bytes, place + 2))
+    byte_at(bytes, place) == b'\\'
+        && byte_at(bytes, place + 1) == b'u'
+        && is_d(byte_at(bytes, place + 2))
 }
 
 // Whether the byte is the first digit of a surrogate.
