@@ -1,5 +1,5 @@
 -- One byte more of what is left of a text.
-use Rattle.std.proofs.Common.{◌≡◌, ◌∙◌, ℕ, ◌+◌, ◌-◌, ◌<◌, ◌≤◌, Bool, List, [], ◌∷◌, ◌++◌, append_assoc, arith, length, drop, get_or, ap, ap₂, sym, if◌then◌else◌, ◌==◌, ◌&&◌, Option, Some}
+use Rattle.std.proofs.Common.{◌≡◌, ◌∙◌, ℕ, ◌+◌, ◌-◌, ◌<◌, ◌≤◌, Bool, List, [], ◌∷◌, ◌++◌, append_assoc, arith, length, drop, get_or, ap, ap₂, sym, if◌then◌else◌, ◌==◌, ◌&&◌, Some}
 use Rattle.std.proofs.lemmas.List.{drop_more}
 use Rattle.bidi_syntax.specs.Surrogates.{is_lone, lone_from, mended, mended_from, replacement, rest_of_character}
 use Rattle.bidi_syntax.specs.Numbers.{begins_number, is_large, large_from, next_mode}

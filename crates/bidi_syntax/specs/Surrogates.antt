@@ -1,5 +1,5 @@
 -- Surrogates that a JSON text escapes. After RFC 8259, section 7: a character outside the first 65,536 is escaped as a pair of them.
-use Rattle.std.specs.Prelude.{ℕ, ◌+◌, ◌-◌, Bool, true, false, not, ◌==◌, ◌&&◌, ◌||◌, nat_le, if◌then◌else◌, List, [], ◌∷◌, slice_index, Option, Some, None}
+use Rattle.std.specs.Prelude.{ℕ, ◌+◌, ◌-◌, Bool, false, not, ◌==◌, ◌&&◌, ◌||◌, nat_le, if◌then◌else◌, List, [], ◌∷◌, slice_index, Option, Some, None}
 
 -- `d` or `D`, the first digit of a surrogate
 abbrev pub is_d : ℕ → Bool

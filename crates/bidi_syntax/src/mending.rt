@@ -1,6 +1,6 @@
 //! Texts with U+FFFD instead of surrogates without their other half.
 ghost use Rattle.std.specs.Prelude.{◌≡◌, IfOk, if◌then◌else◌};
-ghost use Rattle.bidi_syntax.specs.Surrogates.{mended, mended_from, replacement};
+ghost use Rattle.bidi_syntax.specs.Surrogates.{mended, replacement};
 
 use crate::surrogates::{is_lone, rest_of_character};
 use std::alloc::{AllocError, Global};

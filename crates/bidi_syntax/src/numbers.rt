@@ -1,6 +1,6 @@
 //! Numbers in a JSON text.
 ghost use Rattle.std.specs.Prelude.{◌≡◌, ◌∷◌, ◌==◌, MatchOption, false, slice_index};
-ghost use Rattle.bidi_syntax.specs.Numbers.{begins_number, is_large, is_large_from, is_number_byte, large_from, large_number, next_mode};
+ghost use Rattle.bidi_syntax.specs.Numbers.{begins_number, is_large, is_large_from, is_number_byte, large_number, next_mode};
 
 use crate::bytes::{is_digit, is_e, is_sign};
 use fast_float::Numeral;

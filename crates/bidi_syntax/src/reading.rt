@@ -1,6 +1,6 @@
 //! A text that is read byte by byte.
 ghost use Rattle.std.specs.Prelude.{◌≡◌, IfOk, OnOk, Some, None, false, if◌then◌else◌};
-ghost use Rattle.bidi_syntax.specs.Reading.{after_turn, beginning, first_of, innermost, is_whole, levels_from, levels_of, next_reading, reading_of, wants_at, wants_in_string, wants_in_word, wants_of};
+ghost use Rattle.bidi_syntax.specs.Reading.{after_turn, beginning, first_of, innermost, is_whole, levels_of, next_reading, reading_of, wants_at, wants_in_string, wants_in_word, wants_of};
 ghost use Rattle.bidi_syntax.specs.Grammar.{turn_of};
 
 use crate::fault::Fault;

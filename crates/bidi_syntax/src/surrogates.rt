@@ -1,6 +1,6 @@
 //! Escapes of surrogates in a JSON text.
 ghost use Rattle.std.specs.Prelude.{◌≡◌, ◌≤◌};
-ghost use Rattle.bidi_syntax.specs.Surrogates.{is_d, is_high, is_high_digit, is_lone, is_low, is_low_digit, is_surrogate, lone_from, lone_surrogate, rest_of_character};
+ghost use Rattle.bidi_syntax.specs.Surrogates.{is_d, is_high, is_high_digit, is_lone, is_low, is_low_digit, is_surrogate, lone_surrogate, rest_of_character};
 
 use crate::bytes::byte_at;
 
