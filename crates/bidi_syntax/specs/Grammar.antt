@@ -70,7 +70,7 @@ after_backslash b = if b == 117 then Some FourDigits else (if is_escaped b then 
 abbrev pub after_digit : ℕ → StringPart → Option StringPart
 after_digit b part = if is_hexadecimal b then Some part else None
 
--- how a string goes on
+-- how a string goes on; one that is closed does not, and no place is in it
 abbrev pub string_part : StringPart → ℕ → Option StringPart
 string_part Plain b = after_plain b
 string_part Escape b = after_backslash b
@@ -78,7 +78,7 @@ string_part FourDigits b = after_digit b ThreeDigits
 string_part ThreeDigits b = after_digit b TwoDigits
 string_part TwoDigits b = after_digit b OneDigit
 string_part OneDigit b = after_digit b Plain
-string_part Closed b = None
+string_part Closed b = after_plain b
 
 -- the place in a name, or after it
 abbrev pub after_name : StringPart → State

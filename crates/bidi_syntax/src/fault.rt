@@ -1,6 +1,7 @@
 //! Why a text is not read.
-ghost use Rattle.std.specs.Prelude.{◌≡◌, IfOk};
-ghost use Rattle.bidi_syntax.specs.Faults.{fault_of, fault_in_value};
+ghost use Rattle.std.specs.Prelude.{◌≡◌, ℕ, Some, IfOk};
+ghost use Rattle.bidi_syntax.specs.Faults.{IsFirstFault, fault_of, fault_in_value};
+ghost use Rattle.bidi_syntax.specs.declared.fault.Fault.TheVariants.{Syntax};
 
 use crate::numbers::large_number;
 use crate::reading::levels_of;
@@ -30,9 +31,12 @@ pub enum Fault {
 /// No memory: an allocation failed.
 ///
 /// After RFC 8259.
+#[tactic(auto, using(crate::proofs::FirstLemmas::first_fault))]
 pub fn fault_of(alloc: Global, text: &[u8]) -> Result<Option<Fault>, AllocError>
     // A text that is not JSON has the first byte after which no text is JSON; one that is JSON has what makes it unreadable, if something does.
-    ensures { IfOk result (λ fault. fault ≡ fault_of text.now) }
+    ensures fault { IfOk result (λ fault. fault ≡ fault_of text.now) }
+    // Some JSON text begins with the bytes before that place, and none with these and the byte there.
+    ensures first { IfOk result (λ fault. (wants : Wants) (n : ℕ) → fault ≡ Some (Syntax wants n) → IsFirstFault text.now n) }
 {
     match levels_of(alloc, text)? {
         Err(fault) => Ok(Some(fault)),

@@ -120,13 +120,12 @@ fn string_part(part: StringPart, byte: u8) -> Option<StringPart>
     ensures { result ≡ string_part part byte }
 {
     match part {
-        StringPart::Plain => after_plain(byte),
+        StringPart::Plain | StringPart::Closed => after_plain(byte),
         StringPart::Escape => after_backslash(byte),
         StringPart::FourDigits => after_digit(byte, StringPart::ThreeDigits),
         StringPart::ThreeDigits => after_digit(byte, StringPart::TwoDigits),
         StringPart::TwoDigits => after_digit(byte, StringPart::OneDigit),
         StringPart::OneDigit => after_digit(byte, StringPart::Plain),
-        StringPart::Closed => None,
     }
 }
 
