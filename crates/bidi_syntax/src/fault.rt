@@ -33,7 +33,7 @@ pub enum Fault {
 /// After RFC 8259.
 #[tactic(auto, using(crate::proofs::FirstLemmas::first_fault))]
 pub fn fault_of(alloc: Global, text: &[u8]) -> Result<Option<Fault>, AllocError>
-    // A text that is not JSON has the first byte after which no text is JSON; one that is JSON has what makes it unreadable, if something does.
+    // The fault is that of the definition: where the text stops being JSON, or else what a reader refuses in it.
     ensures fault { IfOk result (λ fault. fault ≡ fault_of text.now) }
     // Some JSON text begins with the bytes before that place, and none with these and the byte there.
     ensures first { IfOk result (λ fault. (wants : Wants) (n : ℕ) → fault ≡ Some (Syntax wants n) → IsFirstFault text.now n) }

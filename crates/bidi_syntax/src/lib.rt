@@ -1,6 +1,6 @@
 //! Why a text is not read as JSON, and where.
 //!
-//! - [`fault_of`] says what is wrong with a text: the first byte after which no text is JSON, with what may stand
+//! - [`fault_of`] says what is wrong with a text: the first byte at which it stops being JSON, with what may stand
 //!   there instead, or what JSON allows and a reader here does not.
 //! - [`mended`] puts U+FFFD for each surrogate without its other half.
 //!
