@@ -29,6 +29,12 @@ Completes r more = (n : ℕ) → levels_from r n more ≡ Ok r.levels
 
 -- ---- what is open is closed
 
+-- how a text goes on behind a value, by what is innermost of what is open
+abbrev behind : List Container → ℕ → ℕ → ℕ → List ℕ → Option Container → Result ℕ Fault
+behind cs l n b more inner =
+    elim (option_map (λ turn. after_turn turn (reading (At Next) cs l)) (turn_of (At Next) inner b)) as (λ _. Result ℕ Fault)
+    [ Some next ↦ levels_from next (n + 1) more | None ↦ Err (Syntax (wants_of (reading (At Next) cs l)) n) ]
+
 -- behind a value
 closed : (k : ℕ) (cs : List Container) (l : ℕ) → length cs ≡ k → (more : List ℕ) × Completes (reading (At Next) cs l) more
 closed zero cs l none = ([], λ n. ap (λ (k : ℕ). if k == 0 then Ok l else Err (Syntax (wants_of (reading (At Next) cs l)) n)) none)
@@ -38,32 +44,13 @@ closed (suc k) cs l some = go (get_or cs (length cs - 1) Array) (slice_get-get_o
     outer = take (length cs - 1) cs
     fewer : length outer ≡ k
     fewer = length-take-le (length cs - 1) cs (omega arith) ∙ omega (arith, some)
-    step : ℕ → ℕ → List ℕ → Option Container → Result ℕ Fault
-    step n b more inner =
-        elim (option_map (λ turn. after_turn turn (reading (At Next) cs l)) (turn_of (At Next) inner b)) as (λ _. Result ℕ Fault)
-        [ Some next ↦ levels_from next (n + 1) more | None ↦ Err (Syntax (wants_of (reading (At Next) cs l)) n) ]
     go : (o : Container) → innermost cs ≡ Some o → (more : List ℕ) × Completes (reading (At Next) cs l) more
-    unfolding step
-    go Array is = let rest = closed k outer l fewer in (93 ∷ rest.0, λ n. ap (step n 93 rest.0) is ∙ rest.1 (n + 1))
-    go Object is = let rest = closed k outer l fewer in (125 ∷ rest.0, λ n. ap (step n 125 rest.0) is ∙ rest.1 (n + 1))
+    go Array is = let rest = closed k outer l fewer in (93 ∷ rest.0, λ n. ap (behind cs l n 93 rest.0) is ∙ rest.1 (n + 1))
+    go Object is = let rest = closed k outer l fewer in (125 ∷ rest.0, λ n. ap (behind cs l n 125 rest.0) is ∙ rest.1 (n + 1))
 
 -- ---- what was begun is ended
 
--- bytes that end a string, before others
-string_rest : StringPart → List ℕ → List ℕ
-string_rest Plain more = 34 ∷ more
-string_rest Escape more = 110 ∷ 34 ∷ more
-string_rest FourDigits more = 48 ∷ 48 ∷ 48 ∷ 48 ∷ 34 ∷ more
-string_rest ThreeDigits more = 48 ∷ 48 ∷ 48 ∷ 34 ∷ more
-string_rest TwoDigits more = 48 ∷ 48 ∷ 34 ∷ more
-string_rest OneDigit more = 48 ∷ 34 ∷ more
-string_rest Closed more = 34 ∷ more
-
 module _ (cs : List Container) (l : ℕ) (more : List ℕ) (ends : Completes (reading (At Next) cs l) more) where
-  -- a place is completed by bytes that lead behind a value
-  Ends : State → Type 0
-  Ends state = (bytes : List ℕ) × Completes (reading state cs l) bytes
-
   text_ends : (part : StringPart) → (bytes : List ℕ) × Completes (reading (InText part) cs l) bytes
   text_ends Plain = (34 ∷ more, λ n. ends (n + 1))
   text_ends Escape = (110 ∷ 34 ∷ more, λ n. ends (n + 1 + 1))

@@ -27,13 +27,12 @@ stops r n b bs e =
     ap (λ (o : Option Reading). elim o as (λ _. Result ℕ Fault) [ Some next ↦ levels_from next (n + 1) bs | None ↦ Err (Syntax (wants_of r) n) ]) e
 
 -- the place in a fault
-place_in : Result ℕ Fault → ℕ
+abbrev place_in : Result ℕ Fault → ℕ
 place_in (Err (Syntax w m)) = m
 place_in other = 0
 
 -- a fault is found where it is
 found : (r : Reading) (n : ℕ) (text : List ℕ) (w : Wants) (m : ℕ) → levels_from r n text ≡ Err (Syntax w m) → Found r n text m
-unfolding place_in
 found r n [] w m e =
     let whole = completion r in
     record {
@@ -46,13 +45,11 @@ found r n [] w m e =
     }
   where
     go : (b : Bool) → (if b then Ok r.levels else Err (Syntax (wants_of r) n)) ≡ Err (Syntax w m) → n + 0 ≡ m
-    unfolding place_in
     go true is = absurd cc
     go false is = omega (arith, ap place_in is)
 found r n (b ∷ bs) w m e = go (next_reading r b) refl
   where
     go : (o : Option Reading) → next_reading r b ≡ o → Found r n (b ∷ bs) m
-    unfolding place_in
     go None is =
         let whole = completion r in
         record {

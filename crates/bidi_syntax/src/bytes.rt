@@ -38,6 +38,7 @@ pub(crate) fn is_escaped(byte: u8) -> bool
 }
 
 /// Whether the byte is a sign.
+#[tactic(auto, using(crate::proofs::FirstLemmas::first_fault))]
 pub(crate) fn is_sign(byte: u8) -> bool
     ensures { result ≡ is_sign byte }
 {

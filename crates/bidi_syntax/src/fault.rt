@@ -31,7 +31,6 @@ pub enum Fault {
 /// No memory: an allocation failed.
 ///
 /// After RFC 8259.
-#[tactic(auto, using(crate::proofs::FirstLemmas::first_fault))]
 pub fn fault_of(alloc: Global, text: &[u8]) -> Result<Option<Fault>, AllocError>
     // The fault is that of the definition: where the text stops being JSON, or else what a reader refuses in it.
     ensures fault { IfOk result (λ fault. fault ≡ fault_of text.now) }
