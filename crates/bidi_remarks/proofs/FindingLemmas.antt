@@ -1,8 +1,7 @@
 -- What is wrong with a line, and what is told of it.
 use Rattle.std.proofs.Common.{◌≡◌, ◌∙◌, ℕ, List, length, Bool, true, false, Option, Some, None, Result, Ok, Err, IfOk, String, Global}
-use Rattle.std.proofs.Common.{arith, refl, sym, ap, ap₂, subst, is_some, string_bytes, option_map, codes}
+use Rattle.std.proofs.Common.{arith, refl, sym, ap, subst, is_some, string_bytes, option_map, codes}
 use Rattle.std.specs.Prelude.{IsUtf8, IfSome, nat_le, if◌then◌else◌}
-use Rattle.std.specs.Global.{Vec}
 use Rattle.std.specs.Result.{result_err}
 use Rattle.std.proofs.lemmas.Bool.Decides.{nat_tests}
 use Rattle.bidi_tree.specs.Node.{Node}
@@ -24,7 +23,7 @@ use Rattle.bidi_show.specs.MessageLines as show
 use Rattle.bidi_show.specs.MessageLines.{HasTree, Refuses}
 use Rattle.bidi_lines.specs.declared.side.Side.{Side}
 use Rattle.bidi_lines.specs.declared.side.Side.TheVariants.{Local, Remote}
-use Rattle.bidi_remarks.specs.Trouble.{HasMisfit, HasNoTree, HasTrouble, IsTrouble, IsTroubleAt, Misfit, Trouble, bad, no_fit, is_too_large}
+use Rattle.bidi_remarks.specs.Trouble.{HasMisfitOf, HasNoTree, HasTrouble, IsTrouble, IsTroubleAt, Misfit, Trouble, bad, no_fit, is_too_large}
 use Rattle.bidi_remarks.specs.Trouble.{HasId, fits_none, is_no_text, is_not_json, of_tree}
 use Rattle.bidi_remarks.specs.Explaining.{Explains, Telling, is_refused, telling}
 use Rattle.bidi_remarks.specs.declared.bad_text.BadText.TheVariants.{ByteOrderMark, NotJson, NoUtf8, TooLarge, TooLong, NoDirection}
@@ -162,7 +161,7 @@ said (Some s) e h = h
 
 -- one whose value is refused has the misfit of its tree
 pub value_refused : (t : Node) (o : Option (String Global)) (m : Misfit) → is_some o ≡ true
-    → ((line : List ℕ) → HasTree line t → Refuses Remote line (option_map string_bytes o)) → HasMisfit Remote t m
+    → ((line : List ℕ) → HasTree line t → Refuses Remote line (option_map string_bytes o)) → HasMisfitOf Remote t m
     → (line : List ℕ) → HasTree line t → HasTrouble Remote line (Some (no_fit m))
 value_refused t o m some refuses misfit line read = (refused Remote line o some (refuses line read), fits_none t m read refl misfit)
 

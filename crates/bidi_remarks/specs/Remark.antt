@@ -4,10 +4,9 @@ use Rattle.bidi_params.specs.declared.error_code.ErrorCode.{ErrorCode}
 use Rattle.bidi_params.specs.ErrorCode.{error_code_text}
 use Rattle.bidi_methods.specs.declared.method.Method.{Method}
 use Rattle.bidi_methods.specs.Method.{method_text}
-use Rattle.bidi_blame.specs.Reason.{Reason}
 use Rattle.bidi_show.specs.MessageLines.{id_text}
 use Rattle.bidi_remarks.specs.Trouble as trouble
-use Rattle.bidi_remarks.specs.Trouble.{Misfit, Trouble, bad, no_fit, bad_words, reason_parts, trouble_of}
+use Rattle.bidi_remarks.specs.Trouble.{Misfit, Trouble, bad, no_fit, bad_words, trouble_of}
 use Rattle.bidi_lines.specs.declared.side.Side.{Side}
 use Rattle.bidi_lines.specs.declared.side.Side.TheVariants.{Local, Remote}
 use Rattle.bidi_remarks.specs.Texts.{Row, answers_words, cause_text, json_line, side_text, told_text, words_line}
@@ -92,11 +91,10 @@ within place m = record {
 abbrev pub no_message : Option ℕ → List ℕ → Trouble → Remark
 no_message answers brief why = fault (Some Remote) answers (brief ++ answers_words answers) why
 
--- a result does not fit the rule of its command's method, for this reason within it
-abbrev pub bad_result : ℕ → Method → Reason → Remark
-bad_result id method r =
-    fault (Some Remote) (Some id) (codes "bad result " ++ decimal id ++ 32 ∷ method_text method)
-    (no_fit (within (codes "/result") (reason_parts (Some id) (Some (method_text method)) r)))
+-- a result does not fit the rule of its command's method, and this is wrong within it
+abbrev pub bad_result : ℕ → Method → Misfit → Remark
+bad_result id method m =
+    fault (Some Remote) (Some id) (codes "bad result " ++ decimal id ++ 32 ∷ method_text method) (no_fit (within (codes "/result") m))
 
 -- ---- how it is told
 
@@ -116,10 +114,10 @@ failure_row id method code =
     }
 
 -- the JSON object of a command that was never answered
-abbrev pub unanswered_row : ℕ → Method → Row
+abbrev pub unanswered_row : ℕ → List ℕ → Row
 unanswered_row id method = record {
   id = Some id;
-  method = Some (method_text method);
+  method = Some method;
   pointer = None;
   named = None;
   wants = None;
@@ -146,10 +144,10 @@ abbrev pub at_words : Option ℕ → List ℕ
 at_words None = []
 at_words (Some n) = codes " (line " ++ decimal n ++ codes ")"
 
--- what is written for a command that was never answered, which stood at this line: `unanswered ID METHOD (line N)`
-abbrev pub unanswered_line : Option Form → Option ℕ → ℕ × Method → List ℕ
-unanswered_line (Some Json) n (id, method) = json_line n (unanswered_row id method)
-unanswered_line form n (id, method) = codes "unanswered " ++ decimal id ++ codes " " ++ method_text method ++ at_words n ++ 10 ∷ []
+-- what is written for a command that was never answered, with its id, its method and its line: `unanswered ID METHOD (line N)`
+abbrev pub unanswered_line : Option Form → Option ℕ → ℕ → List ℕ → List ℕ
+unanswered_line (Some Json) n id method = json_line n (unanswered_row id method)
+unanswered_line form n id method = codes "unanswered " ++ decimal id ++ codes " " ++ method ++ at_words n ++ 10 ∷ []
 
 -- the cause by which a line is counted
 abbrev pub remark_cause : Remark → List ℕ

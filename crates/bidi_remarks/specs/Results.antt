@@ -7,9 +7,7 @@ use Rattle.bidi_shape.specs.Fits.{Fits}
 use Rattle.bidi_methods.specs.declared.method.Method.{Method}
 use Rattle.bidi_methods.specs.Method.{method_text, result_of}
 use Rattle.bidi_local.specs.Received.{result_in}
-use Rattle.bidi_blame.specs.Blames.{Blames}
-use Rattle.bidi_blame.specs.Reason.{Reason}
-use Rattle.bidi_remarks.specs.Trouble.{Misfit, reason_parts}
+use Rattle.bidi_remarks.specs.Trouble.{HasMisfit, Misfit}
 use Rattle.bidi_remarks.specs.Remark.{Remark, bad_result}
 
 -- the text is a response whose result does not fit the rule of the method
@@ -18,10 +16,9 @@ HasBadResult text method = (t : Node) × (tree_of text ≡ Some t) × (Fits (res
 
 -- a reason why this result does not fit the rule of the method, in words
 abbrev pub HasResultMisfit : Node → ℕ → Method → Misfit → Type 0
-HasResultMisfit outcome id method m =
-    (r : Reason) × Blames outcome (rule (result_of method)) r × (m ≡ reason_parts (Some id) (Some (method_text method)) r)
+HasResultMisfit outcome id method m = HasMisfit (result_of method) (Some id) (Some (method_text method)) outcome m
 
 -- it is told so
 abbrev pub TellsBadResult : List ℕ → ℕ → Method → Remark → Type 0
 TellsBadResult text id method o =
-    (t : Node) × (r : Reason) × (tree_of text ≡ Some t) × Blames (result_in t) (rule (result_of method)) r × (o ≡ bad_result id method r)
+    (t : Node) × (m : Misfit) × (tree_of text ≡ Some t) × HasResultMisfit (result_in t) id method m × (o ≡ bad_result id method m)

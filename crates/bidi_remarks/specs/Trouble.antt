@@ -1,6 +1,6 @@
 -- What is wrong with a line that is refused. The kinds and their words are this project's own.
-use Rattle.std.specs.Prelude.{◌≡◌, ◌+◌, ◌==◌, ◌&&◌, ◌++◌, ℕ, List, [], ◌∷◌, length, take, nat_lt, Bool, true, false, Option, Some, None}
-use Rattle.std.specs.Prelude.{option_map, option_and_then, unwrap_or, string_bytes, codes, decimal, IsUtf8}
+use Rattle.std.specs.Prelude.{◌≡◌, ◌+◌, ◌==◌, ◌&&◌, ◌++◌, ℕ, List, [], ◌∷◌, length, take, nat_lt, Bool, true, false, Option, Some, None, if◌then◌else◌}
+use Rattle.std.specs.Prelude.{option_map, option_and_then, string_bytes, codes, decimal, IsUtf8}
 use Rattle.std.specs.Str.{IsValidUpTo, bytes_eq}
 use Rattle.bidi_tree.specs.Node.{Node, get_of, odd}
 use Rattle.bidi_tree.specs.Kind.{text_in}
@@ -136,29 +136,31 @@ reason_parts id method r = record {
   is_beyond = reason.is_beyond r;
 }
 
--- a tree and the reason why it does not fit, in words
-abbrev pub misfit_parts : Node → Reason → Misfit
-misfit_parts t r = reason_parts (echoed_id t) (method_of t) r
-
 -- there is no reason, or one that is wrong for the profile alone
 abbrev pub is_excused : Option Reason → Bool
 is_excused None = true
 is_excused (Some r) = reason.is_beyond r
 
--- Without the members that only the draft has, the tree does not fit the rule of its end for this reason, in words, which is wrong for the draft; or there is
--- no such reason.
-abbrev pub HasFaultInRest : Side → Node → Option Misfit → Type 0
-HasFaultInRest side t None = (o : Option Reason) × Judged (trimmed false t) (rule (rule_of side)) o × (is_excused o ≡ true)
-HasFaultInRest side t (Some m) = (r : Reason) × Blames (trimmed false t) (rule (rule_of side)) r × (reason.is_beyond r ≡ false) × (m ≡ misfit_parts t r)
+-- Without the members that only the draft has, the tree does not fit the rule for this reason, in words with this id and this method, and the reason is
+-- wrong for the draft; or there is no such reason.
+abbrev pub HasFaultInRest : rules.Name → Option ℕ → Option (List ℕ) → Node → Option Misfit → Type 0
+HasFaultInRest n id method t None = (o : Option Reason) × Judged (trimmed false t) (rule n) o × (is_excused o ≡ true)
+HasFaultInRest n id method t (Some m) =
+    (r : Reason) × Blames (trimmed false t) (rule n) r × (reason.is_beyond r ≡ false) × (m ≡ reason_parts id method r)
 
--- A reason why the tree does not fit the rule of its end, in words.
-pub data HasMisfit (side : Side) (t : Node) : Misfit → Type 0 where
+-- A reason why the tree does not fit the rule, in words with this id and this method.
+pub data HasMisfit (n : rules.Name) (id : Option ℕ) (method : Option (List ℕ)) (t : Node) : Misfit → Type 0 where
   -- it is wrong for the draft
-  of_fault : (r : Reason) → Blames t (rule (rule_of side)) r → reason.is_beyond r ≡ false → HasMisfit side t (misfit_parts t r)
+  of_fault : (r : Reason) → Blames t (rule n) r → reason.is_beyond r ≡ false → HasMisfit n id method t (reason_parts id method r)
   -- it is wrong for the profile alone, and so is all else
-  of_beyond : (r : Reason) → Blames t (rule (rule_of side)) r → reason.is_beyond r ≡ true → HasFaultInRest side t None → HasMisfit side t (misfit_parts t r)
+  of_beyond : (r : Reason) → Blames t (rule n) r → reason.is_beyond r ≡ true → HasFaultInRest n id method t None
+      → HasMisfit n id method t (reason_parts id method r)
   -- the first is wrong for the profile alone, and behind it is this one
-  of_rest : (r : Reason) (m : Misfit) → Blames t (rule (rule_of side)) r → reason.is_beyond r ≡ true → HasFaultInRest side t (Some m) → HasMisfit side t m
+  of_rest : (r : Reason) (m : Misfit) → Blames t (rule n) r → reason.is_beyond r ≡ true → HasFaultInRest n id method t (Some m) → HasMisfit n id method t m
+
+-- a reason why the tree does not fit the rule of its end
+abbrev pub HasMisfitOf : Side → Node → Misfit → Type 0
+HasMisfitOf side t m = HasMisfit (rule_of side) (echoed_id t) (method_of t) t m
 
 -- ---- of both
 
@@ -171,6 +173,11 @@ pub data Trouble : Type 0 where
 abbrev pub is_beyond : Trouble → Bool
 is_beyond (bad b) = false
 is_beyond (no_fit m) = m.is_beyond
+
+-- the method of a message that is wrong for the profile alone, if it has one
+abbrev pub method_beyond : Trouble → Option (List ℕ)
+method_beyond (bad b) = None
+method_beyond (no_fit m) = if m.is_beyond then m.method else None
 
 -- what may stand there, in full and in short
 abbrev pub wants_of : Wants → List ℕ
@@ -233,7 +240,7 @@ pub data IsTrouble (side : Side) (line : List ℕ) : Trouble → Type 0 where
   is_no_text : (front : ℕ) → (IsUtf8 line → ⊥) → IsValidUpTo line front → IsTrouble side line (bad (NoUtf8 (front + 1)))
   is_not_json : IsUtf8 line → tree_of_text None line ≡ None → IsTrouble side line (bad (NotJson (fault_of line)))
   is_large : (t : Node) → HasTree line t → is_too_large side line ≡ true → IsTrouble side line (bad TooLarge)
-  fits_none : (t : Node) (m : Misfit) → HasTree line t → is_too_large side line ≡ false → HasMisfit side t m → IsTrouble side line (no_fit m)
+  fits_none : (t : Node) (m : Misfit) → HasTree line t → is_too_large side line ≡ false → HasMisfitOf side t m → IsTrouble side line (no_fit m)
 
 -- The same of the refused line of this number.
 pub data IsTroubleAt (side : Side) (n : ℕ) (line : List ℕ) : Trouble → Type 0 where

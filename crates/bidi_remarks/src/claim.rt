@@ -126,8 +126,8 @@ pub(crate) fn short(
     }
 }
 
-// A text of its own, if there is one.
-fn owned(alloc: Global, text: Option<&'static str>) -> Result<Option<String>, AllocError>
+/// A copy of the text, if there is one.
+pub(crate) fn owned(alloc: Global, text: Option<&str>) -> Result<Option<String>, AllocError>
     ensures { IfOk result (λ s. option_map string_bytes s ≡ option_map (λ k. k.now) text.entry) }
 {
     match text {

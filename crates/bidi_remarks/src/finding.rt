@@ -1,22 +1,25 @@
 //! What is wrong with a line that is refused.
 ghost use Rattle.std.specs.Prelude.{◌≡◌, ℕ, List, Some, false, IfOk, MatchResult, option_map};
 ghost use Rattle.bidi_tree.specs.Json.{parsed};
+ghost use Rattle.bidi_tree.specs.Outline.{outline_node};
+ghost use Rattle.bidi_rules.specs.Names.{name_of};
 ghost use Rattle.bidi_shape.specs.Term.{rule};
 ghost use Rattle.bidi_shape.specs.Fits.{Fits};
 ghost use Rattle.bidi_show.specs.MessageLines.{HasTree, Refuses};
 ghost use Rattle.bidi_lines.specs.declared.side.Side.TheVariants.{Local, Remote};
 ghost use Rattle.bidi_messages.specs.Verdict.{echoed_id};
 ghost use Rattle.bidi_syntax.specs.Surrogates.{mended};
-ghost use Rattle.bidi_remarks.specs.Trouble.{HasId, HasMisfit, HasNoTree, HasTrouble, HasTroubleAt, IsIdIn, IsTrouble, begins_with_mark, has_odd_id, is_beyond, is_too_large, misfit_of, rule_of, trouble_of};
+ghost use Rattle.bidi_remarks.specs.Trouble.{HasId, HasMisfitOf, HasNoTree, HasTrouble, HasTroubleAt, IsIdIn, IsTrouble, begins_with_mark, has_odd_id, is_beyond, is_too_large, method_beyond, misfit_of, rule_of, trouble_of};
 
 use crate::bad_text::BadText;
-use crate::misfit::{Misfit, find_misfit, id};
+use crate::misfit::{Misfit, find_misfit, id, method};
+use bidi_blame::Name;
 use bidi_lines::Side;
 use bidi_messages::Command;
 use bidi_shape::{MAX_BYTES, Shape, ShapeFault};
 use bidi_show::value_refusal;
 use bidi_syntax::{Fault, fault_of, mended};
-use bidi_tree::{JsUint, ReadFault, outline_parsed, parse};
+use bidi_tree::{JsUint, Outline, ReadFault, outline_parsed, parse};
 use json::{Scratch, Value};
 use std::alloc::{AllocError, Global};
 
@@ -36,6 +39,28 @@ pub(crate) fn is_beyond(trouble: &Trouble) -> bool
     match trouble {
         Trouble::Bad(_) => false,
         Trouble::NoFit(misfit) => misfit.is_beyond,
+    }
+}
+
+/// The method of a message that is wrong for the profile and not for the W3C's draft, if it has one. Takes no memory.
+pub fn method_beyond(trouble: &Trouble) -> Option<&str>
+    // The result is the method of the message, if it is wrong for the profile alone.
+    ensures { option_map (λ method. method.now) result ≡ method_beyond (trouble_of trouble.now) }
+{
+    match trouble {
+        Trouble::Bad(_) => None,
+        Trouble::NoFit(misfit) if misfit.is_beyond => method_in(misfit),
+        Trouble::NoFit(_) => None,
+    }
+}
+
+// The method of the message that does not fit.
+fn method_in(misfit: &Misfit) -> Option<&str>
+    ensures { option_map (λ method. method.now) result ≡ (misfit_of misfit.now).method }
+{
+    match &misfit.method {
+        Some(method) => Some(method.as_str()),
+        None => None,
     }
 }
 
@@ -245,8 +270,26 @@ fn value_in<'a>(
 // The misfit of a value whose tree does not fit the rule of its end.
 fn misfit_in(alloc: Global, side: Side, value: &Value<'_>) -> Result<Misfit, AllocError>
     requires { Fits (parsed value.now) (rule (rule_of side)) → ⊥ }
-    ensures { IfOk result (λ m. HasMisfit side (parsed value.now) (misfit_of m)) }
+    ensures { IfOk result (λ m. HasMisfitOf side (parsed value.now) (misfit_of m)) }
 {
     let outline = outline_parsed(alloc, value)?;
-    find_misfit(alloc, side, &outline)
+    outline_misfit(alloc, side, &outline)
+}
+
+// The misfit of a tree that does not fit the rule of its end.
+fn outline_misfit(alloc: Global, side: Side, tree: &Outline<'_>) -> Result<Misfit, AllocError>
+    requires { Fits (outline_node tree.now) (rule (rule_of side)) → ⊥ }
+    ensures { IfOk result (λ m. HasMisfitOf side (outline_node tree.now) (misfit_of m)) }
+{
+    find_misfit(alloc, rule_for(side), id(tree), method(tree), tree)
+}
+
+// The rule of the texts of an end.
+fn rule_for(side: Side) -> Name
+    ensures { name_of result ≡ rule_of side }
+{
+    match side {
+        Side::Local => Name::Command,
+        Side::Remote => Name::Message,
+    }
 }

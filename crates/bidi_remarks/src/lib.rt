@@ -18,7 +18,7 @@ mod texts;
 mod trimming;
 
 pub use bad_text::BadText;
-pub use finding::{Trouble, begins_with_mark, has_odd_id, id_in, trouble_in};
+pub use finding::{Trouble, begins_with_mark, has_odd_id, id_in, method_beyond, trouble_in};
 pub use misfit::Misfit;
 pub use remark::{Remark, bad_line, id_waits, no_message, stray, too_many, unanswered_line};
 pub use result_misfit::bad_result;

@@ -1,4 +1,4 @@
-//! Trees that do not fit the rule of their end.
+//! Trees that do not fit a rule.
 ghost use Rattle.std.specs.Prelude.{◌≡◌, Some, None, false, if◌then◌else◌, map, option_map, option_and_then, unwrap_or, string_bytes, IfOk};
 ghost use Rattle.bidi_tree.specs.Node.{get_of};
 ghost use Rattle.bidi_tree.specs.Kind.{text_in};
@@ -12,13 +12,12 @@ ghost use Rattle.bidi_blame.specs.Reason as blamed;
 ghost use Rattle.bidi_blame.specs.Said.{told_by};
 ghost use Rattle.bidi_blame.specs.View.{reason_of, step_of};
 ghost use Rattle.bidi_blame.specs.Words.{choice_text, pointer_text};
-ghost use Rattle.bidi_remarks.specs.Trouble.{HasFaultInRest, HasMisfit, method_of, misfit_of, misfit_parts, pattern_text, reason_parts, rule_of, short_of, wants_of};
+ghost use Rattle.bidi_remarks.specs.Trouble.{HasFaultInRest, HasMisfit, method_of, misfit_of, pattern_text, reason_parts, short_of, wants_of};
 
 use crate::beyond::is_beyond;
-use crate::claim::{Kind, has, kind_of, no_key, short};
+use crate::claim::{Kind, has, kind_of, no_key, owned, short};
 use crate::trimming::trimmed;
 use bidi_blame::{Alternatives, Name, PathStep, Reason, blame, pointer, wanted};
-use bidi_lines::Side;
 use bidi_shape::Parsed;
 use bidi_tree::{JsUint, Outline, find_outline};
 use std::alloc::{AllocError, Global};
@@ -55,47 +54,41 @@ pub struct Misfit {
     pub(crate) is_beyond: bool,
 }
 
-/// The misfit of a tree that does not fit the rule of its end.
+/// The misfit of a tree that does not fit a rule, in words with this id and this method.
 pub(crate) fn find_misfit(
     alloc: Global,
-    side: Side,
+    name: Name,
+    id: Option<JsUint>,
+    method: Option<&str>,
     tree: &Outline<'_>,
 ) -> Result<Misfit, AllocError>
-    requires { Fits (outline_node tree.now) (rule (rule_of side)) → ⊥ }
-    ensures { IfOk result (λ m. HasMisfit side (outline_node tree.now) (misfit_of m)) }
+    requires { Fits (outline_node tree.now) (rule (name_of name)) → ⊥ }
+    ensures { IfOk result (λ m. HasMisfit (name_of name) (option_map (λ n. n.value) id) (option_map (λ s. s.now) method.entry) (outline_node tree.now) (misfit_of m)) }
 {
-    let Some(reason) = blame(alloc, tree, rule_for(side))? else {
+    let Some(reason) = blame(alloc, tree, name)? else {
         unreachable!();
     };
-    let first = reason_misfit(alloc, tree, &reason)?;
-    first_fault(alloc, side, tree, first)
-}
-
-// A reason why a tree, or a part of it, does not fit, in words.
-fn reason_misfit(
-    alloc: Global,
-    tree: &Outline<'_>,
-    reason: &Reason<'_, '_>,
-) -> Result<Misfit, AllocError>
-    ensures { IfOk result (λ m. misfit_of m ≡ misfit_parts (outline_node tree.now) (reason_of reason.now)) }
-{
-    in_words(alloc, id(tree), method(alloc, tree)?, reason)
+    let first = in_words(alloc, id, method, &reason)?;
+    first_fault(alloc, name, id, method, tree, first)
 }
 
 // The first misfit of a tree, or, if that is wrong for the profile alone, one of the rest that is wrong for the draft.
 fn first_fault(
     alloc: Global,
-    side: Side,
+    name: Name,
+    id: Option<JsUint>,
+    method: Option<&str>,
     tree: &Outline<'_>,
     first: Misfit,
 ) -> Result<Misfit, AllocError>
-    ensures { IfOk result (λ m. (r : blamed.Reason) → Blames (outline_node tree.now) (rule (rule_of side)) r
-        → misfit_of first ≡ misfit_parts (outline_node tree.now) r → HasMisfit side (outline_node tree.now) (misfit_of m)) }
+    ensures { IfOk result (λ m. (r : blamed.Reason) → Blames (outline_node tree.now) (rule (name_of name)) r
+        → misfit_of first ≡ reason_parts (option_map (λ n. n.value) id) (option_map (λ s. s.now) method.entry) r
+        → HasMisfit (name_of name) (option_map (λ n. n.value) id) (option_map (λ s. s.now) method.entry) (outline_node tree.now) (misfit_of m)) }
 {
     if !first.is_beyond {
         return Ok(first);
     }
-    let found = fault_in_rest(alloc, side, tree)?;
+    let found = fault_in_rest(alloc, name, id, method, tree)?;
     match found {
         Some(fault) => Ok(fault),
         None => Ok(first),
@@ -105,16 +98,19 @@ fn first_fault(
 // The misfit of a tree without the members that only the draft has, if that is wrong for the draft.
 fn fault_in_rest(
     alloc: Global,
-    side: Side,
+    name: Name,
+    id: Option<JsUint>,
+    method: Option<&str>,
     tree: &Outline<'_>,
 ) -> Result<Option<Misfit>, AllocError>
-    ensures { IfOk result (λ found. HasFaultInRest side (outline_node tree.now) (option_map misfit_of found)) }
+    ensures { IfOk result (λ found. HasFaultInRest (name_of name) (option_map (λ n. n.value) id) (option_map (λ s. s.now) method.entry) (outline_node tree.now)
+        (option_map misfit_of found)) }
 {
     let rest = trimmed(alloc, false, tree)?;
-    let Some(reason) = blame(alloc, &rest, rule_for(side))? else {
+    let Some(reason) = blame(alloc, &rest, name)? else {
         return Ok(None);
     };
-    let misfit = reason_misfit(alloc, tree, &reason)?;
+    let misfit = in_words(alloc, id, method, &reason)?;
     Ok(unless_beyond(misfit))
 }
 
@@ -125,25 +121,16 @@ fn unless_beyond(misfit: Misfit) -> Option<Misfit>
     if misfit.is_beyond { None } else { Some(misfit) }
 }
 
-// The rule of the texts of an end.
-fn rule_for(side: Side) -> Name
-    ensures { name_of result ≡ rule_of side }
-{
-    match side {
-        Side::Local => Name::Command,
-        Side::Remote => Name::Message,
-    }
-}
-
-/// The reason why a tree with this id and this method does not fit, in words.
-pub(crate) fn in_words(
+// The reason why a tree with this id and this method does not fit, in words.
+fn in_words(
     alloc: Global,
     id: Option<JsUint>,
-    method: Option<String>,
+    method: Option<&str>,
     reason: &Reason<'_, '_>,
 ) -> Result<Misfit, AllocError>
-    ensures { IfOk result (λ m. misfit_of m ≡ reason_parts (option_map (λ n. n.value) id) (option_map string_bytes method) (reason_of reason.now)) }
+    ensures { IfOk result (λ m. misfit_of m ≡ reason_parts (option_map (λ n. n.value) id) (option_map (λ s. s.now) method.entry) (reason_of reason.now)) }
 {
+    let method = owned(alloc, method)?;
     let alternatives = wanted(alloc, &reason.wants)?;
     let is_beyond = is_beyond(reason, &alternatives);
     let no_key = no_key(alloc, reason, &alternatives)?;
@@ -209,16 +196,13 @@ fn js_uint(tree: &Outline<'_>) -> Option<JsUint>
     }
 }
 
-// The member `method` of a tree, or else its `type`, where that is a text.
-fn method(alloc: Global, tree: &Outline<'_>) -> Result<Option<String>, AllocError>
-    ensures { IfOk result (λ found. option_map string_bytes found ≡ method_of (outline_node tree.now)) }
+/// The member `method` of a tree, or else its `type`, where that is a text.
+pub(crate) fn method<'a>(tree: &'a Outline<'_>) -> Option<&'a str>
+    ensures { option_map (λ s. s.now) result ≡ method_of (outline_node tree.now) }
 {
-    if let Some(method) = text_member(tree, "method") {
-        return Ok(Some(String::from_str(alloc, method)?));
-    }
-    match text_member(tree, "type") {
-        Some(kind) => Ok(Some(String::from_str(alloc, kind)?)),
-        None => Ok(None),
+    match text_member(tree, "method") {
+        Some(method) => Some(method),
+        None => text_member(tree, "type"),
     }
 }
 

@@ -335,7 +335,7 @@ fn failure_in_json(
     json_line(alloc, Some(number), &row)
 }
 
-/// What is written for a command that was never answered, which stood at this line.
+/// What is written for a command that was never answered: its line, its id and its method.
 ///
 /// # Errors
 /// No memory: an allocation failed.
@@ -343,11 +343,11 @@ pub fn unanswered_line(
     alloc: Global,
     form: Option<Form>,
     number: Option<u64>,
-    id: JsUint,
-    method: Method,
+    id: u64,
+    method: &str,
 ) -> Result<Vec<u8>, AllocError>
     // The text names the command and, where it is known, its line.
-    ensures { IfOk result (λ text. text.items ≡ unanswered_line form number (id.value, method)) }
+    ensures { IfOk result (λ text. text.items ≡ unanswered_line form number id method.now) }
 {
     match form {
         Some(Form::Json) => unanswered_in_json(alloc, number, id, method),
@@ -359,16 +359,16 @@ pub fn unanswered_line(
 fn unanswered_in_words(
     alloc: Global,
     number: Option<u64>,
-    id: JsUint,
-    method: Method,
+    id: u64,
+    method: &str,
 ) -> Result<Vec<u8>, AllocError>
-    ensures { IfOk result (λ text. text.items ≡ codes "unanswered " ++ decimal id.value ++ codes " " ++ method_text method ++ at_words number ++ 10 ∷ []) }
+    ensures { IfOk result (λ text. text.items ≡ codes "unanswered " ++ decimal id ++ codes " " ++ method.now ++ at_words number ++ 10 ∷ []) }
 {
     let mut text = Vec::new(alloc);
     put(&mut text, b"unanswered ")?;
-    put(&mut text, Buffer::new().format(id.value).as_bytes())?;
+    put(&mut text, Buffer::new().format(id).as_bytes())?;
     put(&mut text, b" ")?;
-    put(&mut text, method.name().as_bytes())?;
+    put(&mut text, method.as_bytes())?;
     put_at(&mut text, number)?;
     put(&mut text, b"\n")?;
     Ok(text)
@@ -390,14 +390,14 @@ fn put_at(text: &mut Vec<u8>, number: Option<u64>) -> Result<(), AllocError>
 fn unanswered_in_json(
     alloc: Global,
     number: Option<u64>,
-    id: JsUint,
-    method: Method,
+    id: u64,
+    method: &str,
 ) -> Result<Vec<u8>, AllocError>
-    ensures { IfOk result (λ text. text.items ≡ json_line number (told.unanswered_row id.value method)) }
+    ensures { IfOk result (λ text. text.items ≡ json_line number (told.unanswered_row id method.now)) }
 {
     let row = Row {
-        id: Some(id.value),
-        method: Some(method.name()),
+        id: Some(id),
+        method: Some(method),
         pointer: None,
         rule: None,
         wants: None,

@@ -10,9 +10,9 @@ ghost use Rattle.bidi_remarks.specs.Results.{HasBadResult, HasResultMisfit, Tell
 ghost use Rattle.bidi_remarks.specs.Remark.{remark_of};
 ghost use Rattle.bidi_remarks.specs.Trouble.{misfit_of};
 
-use crate::misfit::{Misfit, in_words, member};
+use crate::misfit::{Misfit, find_misfit, member};
 use crate::remark::{Remark, with_bad_result};
-use bidi_blame::{Name, blame};
+use bidi_blame::Name;
 use bidi_messages::{Method, Named};
 use bidi_tree::{JsUint, Outline, ReadFault, outline_parsed, parse};
 use json::Scratch;
@@ -71,11 +71,8 @@ fn misfit_of_result(
     requires { Fits (outline_node outcome.now) (rule (result_of method)) → ⊥ }
     ensures { IfOk result (λ m. HasResultMisfit (outline_node outcome.now) id.value method (misfit_of m)) }
 {
-    let Some(reason) = blame(alloc, outcome, result_rule(method))? else {
-        unreachable!();
-    };
-    let label = String::from_str(alloc, method.name())?;
-    in_words(alloc, Some(id), Some(label), &reason)
+    let name = result_rule(method);
+    find_misfit(alloc, name, Some(id), Some(method.name()), outcome)
 }
 
 // The rule of a method's result.

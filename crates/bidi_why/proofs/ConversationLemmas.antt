@@ -1,28 +1,22 @@
 -- One more line of a conversation.
-use Rattle.std.proofs.Common.{◌≡◌, ◌∙◌, ℕ, suc, ◌+◌, ◌≤◌, take, Bool, true, false, List, [], ◌∷◌, ◌++◌, length, Option, Some, None, Result, Ok, Err, IfOk}
+use Rattle.std.proofs.Common.{◌≡◌, ◌∙◌, ℕ, ◌+◌, ◌≤◌, take, Bool, true, false, List, [], ◌∷◌, ◌++◌, length, Option, Some, None, Result, Ok, Err, IfOk}
 use Rattle.std.proofs.Common.{append_assoc, append-nil, arith, inl, inr, option_map, refl, sym, ap, subst}
-use Rattle.std.specs.Prelude.{◌||◌, ◌&&◌, ◌⊎◌, cond, not, map, OnOk, replicate}
-use Rattle.std.specs.List.{flat_map}
+use Rattle.std.specs.Prelude.{◌&&◌, ◌⊎◌, cond, not, map, OnOk}
 use Rattle.std.proofs.lemmas.Grind.{flat_map-append}
 use Rattle.std.proofs.lemmas.List.{map-append}
 use Rattle.std.proofs.lemmas.List.Elements.{filter-append}
-use Rattle.std.proofs.lemmas.List.Folds.{list_any-append}
 use Rattle.std.specs.Io.KnownBytes.{Appends}
-use Rattle.bidi_tree.specs.declared.number.JsUint.{JsUint}
-use Rattle.bidi_methods.specs.declared.method.Method.{Method}
-use Rattle.bidi_local.specs.Pending.{Pending}
-use Rattle.bidi_local.specs.View.{waiting_in}
 use Rattle.bidi_lines.specs.Stops.{IsCutOff}
 use Rattle.bidi_lines.specs.declared.answering.LinesFault.{LinesFault}
 use Rattle.bidi_lines.specs.declared.answering.LinesFault.TheVariants.{Read, Write, BadLine, NoMemory, TooManyLines, WornOut}
 use Rattle.bidi_lines.proofs.AnsweringLemmas.{cut_off}
 use Rattle.bidi_remarks.specs.Explaining.{Telling, remark_telling, told_of}
-use Rattle.bidi_remarks.specs.Remark.{Remark, is_beyond, line_of as line_at, remark_line, unanswered_line}
+use Rattle.bidi_remarks.specs.Remark.{Remark, is_beyond, remark_line}
 use Rattle.bidi_remarks.specs.declared.telling.Told.{Told}
 use Rattle.bidi_remarks.specs.declared.texts.Form.{Form}
-use Rattle.bidi_why.specs.Conversing.{Converses, CountsConversation, Heard, HearsEach, HearsLine, IsTranscript, Standing, StopsConversation, TellsConversation, any_waits, at_line, entry_of, kept_remarks, remark_lines, silence, unanswered_entries, unanswered_lines}
+use Rattle.bidi_why.specs.Conversing.{Converses, CountsConversation, Heard, HearsEach, HearsLine, IsTranscript, Standing, StopsConversation, TellsConversation, at_line, entry_of, kept_remarks, remark_lines, silence, unanswered_commands, unanswered_entries, unanswered_lines}
 use Rattle.bidi_why.specs.Explainers.{HasConversed, standing_of, text_in}
-use Rattle.bidi_why.specs.Summary.{Entry, IsSum, any_fault, entries_in, is_fault, unanswered}
+use Rattle.bidi_why.specs.Summary.{Entry, IsSum, any_fault, entries_in}
 use Rattle.bidi_why.specs.Telling.{SoFar, StopsLine, Sums, Whole, last_line}
 use Rattle.bidi_why.specs.declared.conversation.Conversation.{Conversation}
 use Rattle.bidi_why.specs.declared.sum.Sum.{Sum}
@@ -153,46 +147,10 @@ conversed_if first before now number lines line text told said (Ok t) p counted 
     (is_told line ∙ ap (λ (b : Bool). map entry_of (kept_remarks b (at_line number line (Some said)))) only)
 conversed_if first before now number lines line text told said (Err e) p counted form only hears is_text is_told = tt
 
--- ---- the commands that wait
-
--- what is written for them, by the ids that the end gives
-pub waiting_lines : (form : Option Form) (lines seen_lines : List (ℕ × ℕ)) (ws seen : List (JsUint × Method)) (waiting : Pending)
-    → seen_lines ≡ lines → seen ≡ ws → map (λ w. (w.0.value, w.1)) ws ≡ waiting
-    → flat_map (λ (w : JsUint × Method). unanswered_line form (line_at seen_lines w.0.value) (w.0.value, w.1)) seen
-    ≡ flat_map (λ (w : ℕ × Method). unanswered_line form (line_at lines w.0) w) waiting
-waiting_lines form lines seen_lines ws seen waiting at same is =
-    ap (λ (ls : List (ℕ × ℕ)). flat_map (λ (w : JsUint × Method). unanswered_line form (line_at ls w.0.value) (w.0.value, w.1)) seen) at
-    ∙ ap (flat_map (λ (w : JsUint × Method). unanswered_line form (line_at lines w.0.value) (w.0.value, w.1))) same ∙ each ws
-    ∙ ap (flat_map (λ (w : ℕ × Method). unanswered_line form (line_at lines w.0) w)) is
-  where
-    each : (ws : List (JsUint × Method)) → flat_map (λ (w : JsUint × Method). unanswered_line form (line_at lines w.0.value) (w.0.value, w.1)) ws
-        ≡ flat_map (λ (w : ℕ × Method). unanswered_line form (line_at lines w.0) w) (map (λ w. (w.0.value, w.1)) ws)
-    each [] = refl
-    each (w ∷ ws) = ap (λ l. unanswered_line form (line_at lines w.0.value) (w.0.value, w.1) ++ l) (each ws)
-
 -- what holds anyhow holds where a call succeeds
 pub ok_anyhow : {T E P : Type 0} (r : Result T E) → P → OnOk r P
 ok_anyhow (Ok x) p = p
 ok_anyhow (Err e) p = tt
-
--- as many entries are counted for them as they are
-pub waiting_entries : (end : Conversation) (ws seen : List (JsUint × Method)) (k : ℕ) → seen ≡ ws → map (λ w. (w.0.value, w.1)) ws ≡ waiting_in end.end
-    → k ≡ length seen → replicate k unanswered ≡ unanswered_entries (standing_of end)
-waiting_entries end ws seen k same is counted =
-    ap (λ (m : ℕ). replicate m unanswered) (counted ∙ ap length same ∙ sym (each ws) ∙ ap length is)
-  where
-    each : (ws : List (JsUint × Method)) → length {A = ℕ × Method} (map (λ (w : JsUint × Method). (w.0.value, w.1)) ws) ≡ length ws
-    each [] = refl
-    each (w ∷ ws) = ap (λ (n : ℕ). suc n) (each ws)
-
--- one of them is a fault if any waits
-waiting_fault : (told : List Entry) (waiting : Pending) → any_fault (told ++ replicate (length waiting) unanswered) ≡ (any_fault told || any_waits waiting)
-waiting_fault told waiting =
-    list_any-append (λ (e : Entry). is_fault e.counted_as) told (replicate (length waiting) unanswered) ∙ ap (λ (b : Bool). any_fault told || b) (each waiting)
-  where
-    each : (waiting : Pending) → any_fault (replicate (length waiting) unanswered) ≡ any_waits waiting
-    each [] = refl
-    each (w ∷ ws) = refl
 
 -- no value is both false and true
 pub no_form : (b : Bool) → false ≡ b → b ≡ true → ⊥
@@ -215,11 +173,11 @@ module _ (form : Option Form) (only : Bool) (first now : Conversation) (same : f
   -- a fault behind the last line
   pub stops_behind : (sum : Sum) (f : LinesFault) (b c : Option (List ℕ)) (at_end : Bool) (read wrote : List ℕ)
       → Whole (Sums HasConversed first now sum) read wrote → at_end ≡ true
-      → StopsLine (λ text. text ≡ unanswered_lines now.form (standing_of now)) f b c
+      → StopsLine (λ text. text ≡ unanswered_lines now.form (unanswered_commands (standing_of now))) f b c
       → (more : List ℕ) × Appends b c more × StopsConversation form only f at_end read (wrote ++ more)
   stops_behind sum Write b c at_end read wrote (lines, last, parts, one, (told, p, is_sum, short, few)) at_last (text, is, (n, less, appends)) =
       let of_form : now.form ≡ form = p.form ∙ same in
-      let whole : text ≡ unanswered_lines form (standing_of now) = is ∙ ap (λ (f : Option Form). unanswered_lines f (standing_of now)) of_form in (
+      let whole : text ≡ unanswered_lines form (unanswered_commands (standing_of now)) = is ∙ ap (λ (f : Option Form). unanswered_lines f (unanswered_commands (standing_of now))) of_form in (
         take n text,
         appends,
         inr (
@@ -248,17 +206,17 @@ module _ (form : Option Form) (only : Bool) (first now : Conversation) (same : f
   stops_behind sum TooManyLines b c at_end read wrote whole at_last none = absurd none
   stops_behind sum WornOut b c at_end read wrote whole at_last none = absurd none
 
-  -- all was told, and then the commands that wait, and the fact holds of how they are counted
+  -- all was told, and then the commands that were never answered, and the fact holds of how they are counted
   pub counts_both : (sum sum' : Sum) (b c : Option (List ℕ)) (read wrote : List ℕ) (P : ℕ → List Entry → Type 0)
-      → Whole (Sums HasConversed first now sum) read wrote → Appends b c (unanswered_lines now.form (standing_of now))
-      → ((n : ℕ) (told : List Entry) → length told ≤ 1000000000 → IsSum sum n told → IsSum sum' n (told ++ unanswered_entries (standing_of now)))
+      → Whole (Sums HasConversed first now sum) read wrote → Appends b c (unanswered_lines now.form (unanswered_commands (standing_of now)))
+      → ((n : ℕ) (told : List Entry) → length told ≤ 1000000000 → IsSum sum n told → IsSum sum' n (told ++ unanswered_entries (unanswered_commands (standing_of now))))
       → ((n : ℕ) (told : List Entry) → IsSum sum' n told → P n told)
       → (text : List ℕ) × Appends b c text × CountsConversation form only P read (wrote ++ text)
   counts_both sum sum' b c read wrote P (lines, last, parts, one, (told, p, is_sum, short, few)) appends more so =
       let of_form : now.form ≡ form = p.form ∙ same in
       let all = lines ++ last_line last in (
-        unanswered_lines form (standing_of now),
-        subst (λ (f : Option Form). Appends b c (unanswered_lines f (standing_of now))) of_form appends,
+        unanswered_lines form (unanswered_commands (standing_of now)),
+        subst (λ (f : Option Form). Appends b c (unanswered_lines f (unanswered_commands (standing_of now)))) of_form appends,
         (
           wrote,
           standing_of now,
@@ -270,7 +228,7 @@ module _ (form : Option Form) (only : Bool) (first now : Conversation) (same : f
             (
               told,
               said_so all wrote told p,
-              so (length all) (told ++ unanswered_entries (standing_of now)) (more (length all) told (omega (arith, short, few)) is_sum),
+              so (length all) (told ++ unanswered_entries (unanswered_commands (standing_of now))) (more (length all) told (omega (arith, short, few)) is_sum),
             ),
           ),
           refl,
@@ -279,22 +237,12 @@ module _ (form : Option Form) (only : Bool) (first now : Conversation) (same : f
 
   -- the same, and whether there is a fault
   pub tells_both : (sum sum' : Sum) (b c : Option (List ℕ)) (some : Bool) (read wrote : List ℕ)
-      → Whole (Sums HasConversed first now sum) read wrote → Appends b c (unanswered_lines now.form (standing_of now))
-      → ((n : ℕ) (told : List Entry) → length told ≤ 1000000000 → IsSum sum n told → IsSum sum' n (told ++ unanswered_entries (standing_of now)))
+      → Whole (Sums HasConversed first now sum) read wrote → Appends b c (unanswered_lines now.form (unanswered_commands (standing_of now)))
+      → ((n : ℕ) (told : List Entry) → length told ≤ 1000000000 → IsSum sum n told
+      → IsSum sum' n (told ++ unanswered_entries (unanswered_commands (standing_of now))))
       → some ≡ sum'.has_fault → (text : List ℕ) × Appends b c text × TellsConversation form only some read (wrote ++ text)
-  tells_both sum sum' b c some read wrote (lines, last, parts, one, (told, p, is_sum, short, few)) appends more is =
-      let of_form : now.form ≡ form = p.form ∙ same in
-      let all = lines ++ last_line last in
-      let sum_of = more (length all) told (omega (arith, short, few)) is_sum in (
-        unanswered_lines form (standing_of now),
-        subst (λ (f : Option Form). Appends b c (unanswered_lines f (standing_of now))) of_form appends,
-        (
-          wrote,
-          standing_of now,
-          (lines, last, parts, one, (told, said_so all wrote told p, is ∙ sum_of.fault ∙ waiting_fault told (waiting_in now.end))),
-          refl,
-        ),
-      )
+  tells_both sum sum' b c some read wrote whole appends more is =
+      counts_both sum sum' b c read wrote (λ (n : ℕ) (told : List Entry). some ≡ any_fault told) whole appends more (λ n told sum_of. is ∙ sum_of.fault)
 
 -- what was told so far is a transcript, said of the form and of what is asked for
 pub transcript_so : (form : Option Form) (only : Bool) (first : Conversation) → first.form ≡ form → first.profile_only ≡ only

@@ -26,7 +26,7 @@ use Rattle.bidi_show.specs.MessageLines.{HasVerdict, Refuses, verdict_shown}
 use Rattle.bidi_lines.specs.declared.side.Side.TheVariants.{Local, Remote}
 use Rattle.bidi_why.specs.Conversing.{Hears, HearsLine, Standing, is_marked, is_no_text, is_refused, is_text, is_too_long, mark_of, refused_words, is_message, is_one_too_many, is_sent, is_sent_twice, IsTold, behind, kind_in, of_answer, of_event, of_failure, of_refused, of_result, of_stray, was_refused, with_command, with_refused, without_refused}
 use Rattle.bidi_why.specs.Conversing.{answered, is_no_message, kept_of, lines_left, settled_id, with_answer}
-use Rattle.bidi_remarks.specs.Results.{HasBadResult, TellsBadResult}
+use Rattle.bidi_remarks.specs.Results.{HasBadResult, HasResultMisfit, TellsBadResult}
 use Rattle.bidi_why.specs.Hearing.{Notes, Takes}
 use Rattle.bidi_why.specs.Hearing as hearing
 use Rattle.bidi_remarks.specs.Trouble.{IsIdIn, IsTrouble, Trouble, begins_with_mark}
@@ -41,8 +41,7 @@ use Rattle.bidi_messages.specs.declared.text.MessageFault.{MessageFault}
 use Rattle.bidi_messages.specs.declared.text.MessageFault.TheVariants.{NotJson, NoFit}
 use Rattle.bidi_why.specs.Hearing.{IsJudged, IsSender, IsStray, to_none, to_refused}
 use Rattle.bidi_remarks.specs.Remark.{Remark, bad_line, fault, failed, id_waits, no_message, stray, too_many}
-use Rattle.bidi_why.specs.declared.ids.Kept.{Kept}
-use Rattle.bidi_why.specs.declared.ids.Kept.TheVariants.{Id}
+use Rattle.bidi_why.specs.Conversing.{Kept, of_id}
 use Rattle.bidi_why.specs.declared.judging.Judged.{Judged}
 use Rattle.bidi_why.specs.declared.judging.Judged.TheVariants as judged
 use Rattle.bidi_params.specs.declared.error_code.ErrorCode.{ErrorCode}
@@ -61,7 +60,6 @@ use Rattle.bidi_local.proofs.OneMeaning.{response_type, error_type, event_is_typ
 use Rattle.bidi_local.specs.Outcome.{IsOutcomeOf}
 use Rattle.bidi_local.specs.declared.outcome.Outcome as outcome
 use Rattle.bidi_local.specs.declared.outcome.Outcome.TheVariants as out
-use Rattle.bidi_blame.specs.Blames.{Blames}
 use Rattle.bidi_local.specs.Pending.{IsNoted, note_refusal}
 use Rattle.bidi_local.specs.View.{Stands, waiting_in}
 use Rattle.bidi_local.specs.declared.local_end.LocalEnd.{LocalEnd}
@@ -80,7 +78,7 @@ noted n s text t id method s' o judged is_id is_method (hearing.is_twice e) =
     subst (λ (i : ℕ). Hears n s text Local (Some (id_waits i method)) s) is_id
     (is_sent_twice t method judged is_method (ap (note_refusal s.waiting) is_id ∙ e))
 noted n s text t id method s' o judged is_id is_method (hearing.is_one_too_many e) =
-    subst (λ (i : ℕ). Hears n s text Local (Some (too_many i method)) (with_refused (Id i) s)) is_id
+    subst (λ (i : ℕ). Hears n s text Local (Some (too_many i method)) (with_refused (of_id i) s)) is_id
     (is_one_too_many t method judged is_method (ap (note_refusal s.waiting) is_id ∙ e))
 
 -- ---- texts of the remote end
@@ -197,14 +195,14 @@ module _ (n : ℕ) (old new : LocalEnd) (lines : List (ℕ × ℕ)) (refused : L
   -- nor does one too many, whose id is kept
   pub notes_too_many : (A : Type 0) (f : NoteFault) (o : Remark) (s' : Standing) → f ≡ TooManyPending
       → IsNoted (let r : Result A NoteFault = Err f in r) (note_refusal (waiting_in old) id) → Stands new last (waiting_in old) → o ≡ too_many id method
-      → s' ≡ with_refused (Id id) (record { waiting = waiting_in new; lines = lines; refused = refused })
+      → s' ≡ with_refused (of_id id) (record { waiting = waiting_in new; lines = lines; refused = refused })
       → Notes n unsaid id method (Some o) s'
   notes_too_many A f o s' is noted stands e after =
       let refusal = subst (λ (x : NoteFault). IsNoted (let r : Result A NoteFault = Err x in r) (note_refusal (waiting_in old) id)) is noted in
-      let same : s' ≡ with_refused (Id id) unsaid =
-      after ∙ ap (λ (w : Pending). with_refused (Id id) (record { waiting = w; lines = lines; refused = refused })) stands.waiting in
+      let same : s' ≡ with_refused (of_id id) unsaid =
+      after ∙ ap (λ (w : Pending). with_refused (of_id id) (record { waiting = w; lines = lines; refused = refused })) stands.waiting in
       subst (λ (z : Standing). Notes n unsaid id method (Some o) z) (sym same)
-      (subst (λ (x : Remark). Notes n unsaid id method (Some x) (with_refused (Id id) unsaid)) (sym e) (hearing.is_one_too_many refusal))
+      (subst (λ (x : Remark). Notes n unsaid id method (Some x) (with_refused (of_id id) unsaid)) (sym e) (hearing.is_one_too_many refusal))
 
 -- ---- answers to none that waits
 
@@ -232,11 +230,11 @@ judged_refused line j id code h is =
 -- and heard so
 pub heard_refused : (n : ℕ) (s s' : Standing) (line : List ℕ) (j : Judged) (id : Option JsUint) (code : ErrorCode) (brief : List ℕ) (why : Trouble) → IsJudged line j
     → j ≡ judged.Refused id code → brief ≡ refused_words (option_map (λ n. n.value) id) code → IsTrouble Local line why
-    → s' ≡ with_refused (kept_of (option_map (λ n. n.value) id) why) s → Hears n s line Local (Some (fault (Some Local) None brief why)) s'
+    → s' ≡ with_refused (kept_of n (option_map (λ n. n.value) id) why) s → Hears n s line Local (Some (fault (Some Local) None brief why)) s'
 heard_refused n s s' line j id code brief why h is words trouble after =
     let here = subst (IsJudged line) is h in
     subst (λ (z : Standing). Hears n s line Local (Some (fault (Some Local) None brief why)) z) (sym after)
-    (subst (λ (b : List ℕ). Hears n s line Local (Some (fault (Some Local) None b why)) (with_refused (kept_of (option_map (λ n. n.value) id) why) s)) (sym words)
+    (subst (λ (b : List ℕ). Hears n s line Local (Some (fault (Some Local) None b why)) (with_refused (kept_of n (option_map (λ n. n.value) id) why) s)) (sym words)
     (is_refused (option_map (λ n. n.value) id) code why here trouble))
 
 -- what is judged accepted is heard as it is noted
@@ -359,7 +357,7 @@ module _ (old new : LocalEnd) (lines lines' : List (ℕ × ℕ)) (refused : List
   takes_bad_result id method o e (u, why, is_tree, blames, is_told) =
       let (is, waits) = bad_waits id method e m told in
       let same : u ≡ t = same_some (sym is_tree ∙ tree) in
-      let here = subst (λ (x : Node). Blames (result_in x) (rule (result_of method)) why) same blames in
+      let here = subst (λ (x : Node). HasResultMisfit (result_in x) id.value method why) same blames in
       let at_id : IsTold before t (local.BadResult id.value) (Some o) (behind (local.BadResult id.value) before) =
       subst (λ (x : Remark). IsTold before t (local.BadResult id.value) (Some x) (behind (local.BadResult id.value) before)) (sym is_told)
       (of_result id.value method why waits here) in

@@ -4,3 +4,4 @@ pub mod TellingLemmas
 pub mod ConversationLemmas
 pub mod HearingLemmas
 pub mod SettlingLemmas
+pub mod KeptLemmas

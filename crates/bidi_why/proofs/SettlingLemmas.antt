@@ -28,8 +28,7 @@ use Rattle.bidi_local.specs.Receiving.{IsMeaningOf}
 use Rattle.bidi_local.specs.View.{Stands, waiting_in}
 use Rattle.bidi_local.specs.declared.local_end.LocalEnd.{LocalEnd}
 use Rattle.bidi_local.proofs.OneMeaning.{response_type, event_is_typed}
-use Rattle.bidi_why.specs.declared.ids.Kept.{Kept}
-use Rattle.bidi_why.specs.Conversing.{Standing, answered, kind_in, lines_left, settled_id, was_refused, with_answer, without_command, without_refused}
+use Rattle.bidi_why.specs.Conversing.{Kept, Standing, answered, kind_in, lines_left, settled_id, was_refused, with_answer, without_command, without_refused}
 
 -- an error reads back
 pub error_reads : (id : ℕ) (code : ErrorCode) → id < 2 ^ 53 → tree_of (error_text (Some id) code) ≡ Some (error_tree (Some id) code)

@@ -1,17 +1,16 @@
 -- A conversation of both ends: what is told of its lines, and of the commands that are never answered. Who answers what is decided as by a local end
 -- that sent just the commands which are accepted.
-use Rattle.std.specs.Prelude.{◌≡◌, ℕ, ◌+◌, ◌⊎◌, Bool, false, true, ◌||◌, ◌&&◌, ◌==◌, not, nat_lt, List, [], ◌∷◌, ◌++◌, filter, length, map, position, remove, replicate, codes, IsUtf8, if◌then◌else◌}
+use Rattle.std.specs.Prelude.{◌≡◌, ℕ, ◌+◌, ◌⊎◌, Bool, false, true, ◌||◌, ◌&&◌, ◌==◌, not, nat_le, nat_lt, List, [], ◌∷◌, ◌++◌, filter, length, map, position, remove, replicate, codes, IsUtf8, if◌then◌else◌}
 use Rattle.std.specs.Prelude.{Option, Some, None, is_some, option_and_then, unwrap_or}
 use Rattle.std.specs.List.{flat_map}
 use Rattle.bidi_tree.specs.Node.{Node, get_of}
 use Rattle.bidi_tree.specs.Kind.{text_in}
 use Rattle.bidi_tree.specs.Text.{tree_of}
-use Rattle.bidi_shape.specs.Term.{rule}
 use Rattle.bidi_params.specs.ErrorCode.{error_code_text}
 use Rattle.bidi_params.specs.declared.error_code.ErrorCode.{ErrorCode}
 use Rattle.bidi_methods.specs.declared.event_data.EventName.{EventName}
 use Rattle.bidi_methods.specs.declared.method.Method.{Method}
-use Rattle.bidi_methods.specs.Method.{method_text, result_of}
+use Rattle.bidi_methods.specs.Method.{method_text}
 use Rattle.bidi_messages.specs.Command.{id_in, method_in}
 use Rattle.bidi_messages.specs.Verdict.{Accepted, Refused, echoed_id}
 use Rattle.bidi_local.specs.Pending.{Pending, method_of, note_refusal, without}
@@ -26,12 +25,9 @@ use Rattle.bidi_lines.specs.declared.answering.LinesFault.TheVariants.{Write, No
 use Rattle.bidi_lines.specs.declared.side.Side.{Side}
 use Rattle.bidi_lines.specs.declared.side.Side.TheVariants.{Local, Remote}
 use Rattle.bidi_show.specs.MessageLines.{HasVerdict, Refuses, id_text}
-use Rattle.bidi_blame.specs.Blames.{Blames}
-use Rattle.bidi_blame.specs.Reason.{Reason}
-use Rattle.bidi_remarks.specs.Trouble.{IsTrouble, Trouble, has_odd_id, IsIdIn, begins_with_mark}
+use Rattle.bidi_remarks.specs.Results.{HasResultMisfit}
+use Rattle.bidi_remarks.specs.Trouble.{IsTrouble, Misfit, Trouble, has_odd_id, IsIdIn, begins_with_mark, method_beyond}
 use Rattle.bidi_why.specs.Telling.{Whole, report_run}
-use Rattle.bidi_why.specs.declared.ids.Kept.{Kept}
-use Rattle.bidi_why.specs.declared.ids.Kept.TheVariants.{Any, Id, Null}
 use Rattle.bidi_remarks.specs.Explaining.{remark_counted_as}
 use Rattle.bidi_why.specs.Summary.{Entry, any_fault, is_log, unanswered}
 use Rattle.bidi_remarks.specs.Remark.{Remark, bad_line, bad_result, failed, fault, id_waits, is_beyond, line_of, no_message, remark_cause, remark_line, stray, too_many, unanswered_line}
@@ -41,13 +37,24 @@ use Rattle.bidi_messages.specs.Limits.{most_pending}
 
 -- ---- what stands before a line
 
+-- The answer that a refused message of the client allows.
+pub data Kept : Type 0 where
+  -- one with any id
+  any_id : Kept
+  -- one with the id `null`
+  no_id : Kept
+  -- one with this id
+  of_id : (id : ℕ) → Kept
+  -- one with this id, to the command beyond the profile with this method in the line of this number
+  of_command : (id : ℕ) (method : List ℕ) (n : ℕ) → Kept
+
 -- What is known of a conversation before a line.
 pub record Standing : Type 0 where
   -- the commands that wait for an answer
   pub waiting : Pending
   -- the id of each of them, and the number of its line
   pub lines : List (ℕ × ℕ)
-  -- the ids that the answers to refused texts can have which have no answer yet
+  -- the answers that refused messages allow and that did not come yet
   pub refused : List Kept
 
 -- nothing was said
@@ -68,26 +75,36 @@ without_command id s = record { waiting = without s.waiting id; lines = lines_wi
 
 -- so many are kept at most
 abbrev pub kept : List Kept → Kept → List Kept
-kept ids id = if nat_lt (length ids) most_pending then ids ++ id ∷ [] else ids
+kept answers answer = if nat_lt (length answers) most_pending then answers ++ answer ∷ [] else answers
 
--- a text was refused, whose answer can have this id
+-- a message was refused that allows this answer
 abbrev pub with_refused : Kept → Standing → Standing
-with_refused id s = record { waiting = s.waiting; lines = s.lines; refused = kept s.refused id }
+with_refused answer s = record { waiting = s.waiting; lines = s.lines; refused = kept s.refused answer }
 
--- the id of the answer to a refused text: the text's own, `null` if it has none, and any id if a browser may read one in it
-abbrev pub kept_of : Option ℕ → Trouble → Kept
-kept_of (Some id) why = Id id
-kept_of None why = if has_odd_id why then Any else Null
+-- the most bytes of a method that is kept
+abbrev pub longest_method : ℕ
+longest_method = 4096
 
--- whether it is this id that is kept
+-- the answer to a message with this id in the line of this number, which has this method if it is a command beyond the profile
+abbrev pub kept_as : ℕ → ℕ → Option (List ℕ) → Kept
+kept_as n id None = of_id id
+kept_as n id (Some method) = if nat_le (length method) longest_method then of_command id method n else of_id id
+
+-- the answer to a refused message in the line of this number: it has the message's id, `null` if there is none, and any id if a browser may read one
+abbrev pub kept_of : ℕ → Option ℕ → Trouble → Kept
+kept_of n (Some id) why = kept_as n id (method_beyond why)
+kept_of n None why = if has_odd_id why then any_id else no_id
+
+-- whether the answer has this id, and no other
 abbrev pub is_id : Option ℕ → Kept → Bool
-is_id (Some id) (Id x) = x == id
-is_id None Null = true
+is_id (Some id) (of_id x) = x == id
+is_id (Some id) (of_command x method n) = x == id
+is_id None no_id = true
 is_id id k = false
 
--- whether any id is
+-- whether it has any id
 abbrev pub is_any : Kept → Bool
-is_any Any = true
+is_any any_id = true
 is_any k = false
 
 -- the one place, or else the other
@@ -95,20 +112,20 @@ abbrev pub or_else : Option ℕ → Option ℕ → Option ℕ
 or_else None o = o
 or_else (Some i) o = Some i
 
--- the place of the first of these ids that is this one, or else of the first that is any
+-- the place of the first of these answers that has this id, or else of the first that has any
 abbrev pub place_of : Option ℕ → List Kept → Option ℕ
-place_of id ids = or_else (position (is_id id) ids) (position is_any ids)
+place_of id answers = or_else (position (is_id id) answers) (position is_any answers)
 
--- whether an answer with that id answers a text that was refused, and has no answer
+-- whether an answer with that id answers a message that was refused, and has no answer
 abbrev pub was_refused : Option ℕ → Standing → Bool
 was_refused id s = is_some (place_of id s.refused)
 
--- the ids without the one at this place
+-- the answers without the one at this place
 abbrev pub without_at : Option ℕ → List Kept → List Kept
-without_at None ids = ids
-without_at (Some i) ids = remove ids i
+without_at None answers = answers
+without_at (Some i) answers = remove answers i
 
--- one text that was refused has its answer, which has this id
+-- one message that was refused has its answer, which has this id
 abbrev pub without_refused : Option ℕ → Standing → Standing
 without_refused id s = record { waiting = s.waiting; lines = s.lines; refused = without_at (place_of id s.refused) s.refused }
 
@@ -155,8 +172,8 @@ pub data IsTold (s : Standing) (t : Node) : Meaning → Option Remark → Standi
   of_event : (event : EventName) (params : Node) → IsTold s t (local.Event event params) None (behind (local.Event event params) s)
   of_failure : (id : ℕ) (method : Method) (code : ErrorCode) → method_of s.waiting id ≡ Some method
       → IsTold s t (local.Refusal id code) (Some (failed id method code)) (behind (local.Refusal id code) s)
-  of_result : (id : ℕ) (method : Method) (r : Reason) → method_of s.waiting id ≡ Some method → Blames (result_in t) (rule (result_of method)) r
-      → IsTold s t (local.BadResult id) (Some (bad_result id method r)) (behind (local.BadResult id) s)
+  of_result : (id : ℕ) (method : Method) (m : Misfit) → method_of s.waiting id ≡ Some method → HasResultMisfit (result_in t) id method m
+      → IsTold s t (local.BadResult id) (Some (bad_result id method m)) (behind (local.BadResult id) s)
   of_refused : was_refused (echoed_id t) s ≡ true → IsTold s t local.Stray None (without_refused (echoed_id t) s)
   of_stray : was_refused (echoed_id t) s ≡ false → IsTold s t local.Stray (Some (stray (echoed_id t) (kind_in t))) (behind local.Stray s)
 
@@ -179,9 +196,9 @@ pub data Hears (n : ℕ) (s : Standing) (text : List ℕ) : Side → Option Rema
       → note_refusal s.waiting (id_in t) ≡ Some IdWaits → Hears n s text Local (Some (id_waits (id_in t) method)) s
   is_one_too_many : (t : Node) (method : Method) → HasVerdict text (Accepted t) → method_in t ≡ method_text method
       → note_refusal s.waiting (id_in t) ≡ Some TooManyPending
-      → Hears n s text Local (Some (too_many (id_in t) method)) (with_refused (Id (id_in t)) s)
+      → Hears n s text Local (Some (too_many (id_in t) method)) (with_refused (of_id (id_in t)) s)
   is_refused : (id : Option ℕ) (code : ErrorCode) (why : Trouble) → HasVerdict text (Refused id code) → IsTrouble Local text why
-      → Hears n s text Local (Some (fault (Some Local) None (refused_words id code) why)) (with_refused (kept_of id why) s)
+      → Hears n s text Local (Some (fault (Some Local) None (refused_words id code) why)) (with_refused (kept_of n id why) s)
   -- a message means what it means to the local end
   is_message : (t : Node) (meaning : Meaning) (o : Option Remark) (s' : Standing) → IsUtf8 text → tree_of text ≡ Some t → Means s.waiting text meaning
       → IsTold s t meaning o s' → Hears n s text Remote o s'
@@ -236,33 +253,45 @@ Converses form only lines text told s =
     (heard : List Heard) × HearsEach 1 silence lines heard s
     × (text ≡ remark_lines form (kept_remarks only heard)) × (told ≡ map entry_of (kept_remarks only heard))
 
--- whether any command waits
-abbrev pub any_waits : Pending → Bool
-any_waits [] = false
-any_waits (w ∷ ws) = true
+-- A command that was never answered: its id, its method and the number of its line.
+pub record Unanswered : Type 0 where
+  pub id : ℕ
+  pub method : List ℕ
+  pub line : Option ℕ
 
--- what is written for the commands that were never answered
-abbrev pub unanswered_lines : Option Form → Standing → List ℕ
-unanswered_lines form s = flat_map (λ w. unanswered_line form (line_of s.lines w.0) w) s.waiting
+-- the command of such an answer, if it is one beyond the profile
+abbrev pub command_of : Kept → List Unanswered
+command_of (of_command id method n) = record { id = id; method = method; line = Some n } ∷ []
+command_of k = []
 
--- The bytes are a conversation. What is written is what is told of its lines and then of each command that waits; it has a fault where a line has one,
--- or where a command waits.
-abbrev pub TellsConversation : Option Form → Bool → Bool → List ℕ → List ℕ → Type 0
-TellsConversation form only some bytes wrote =
-    (text : List ℕ) × (s : Standing)
-    × Whole (λ lines written. (told : List Entry) × Converses form only lines written told s × (some ≡ (any_fault told || any_waits s.waiting))) bytes text
-    × (wrote ≡ text ++ unanswered_lines form s)
+-- the command that waits in a conversation
+abbrev pub waiting_command : List (ℕ × ℕ) → ℕ × Method → Unanswered
+waiting_command lines w = record { id = w.0; method = method_text w.1; line = line_of lines w.0 }
 
--- how the commands that were never answered are counted
-abbrev pub unanswered_entries : Standing → List Entry
-unanswered_entries s = replicate (length s.waiting) unanswered
+-- the commands that were never answered: those that wait, and then those beyond the profile
+abbrev pub unanswered_commands : Standing → List Unanswered
+unanswered_commands s = map (waiting_command s.lines) s.waiting ++ flat_map command_of s.refused
 
--- The same, and the fact holds of how many lines there are and of how they and the commands without an answer are counted.
+-- what is written for these commands
+abbrev pub unanswered_lines : Option Form → List Unanswered → List ℕ
+unanswered_lines form commands = flat_map (λ c. unanswered_line form c.line c.id c.method) commands
+
+-- how they are counted
+abbrev pub unanswered_entries : List Unanswered → List Entry
+unanswered_entries commands = replicate (length commands) unanswered
+
+-- The bytes are a conversation, and the fact holds of how many lines there are and of how all that is told is counted. What is written is what is told of
+-- the lines, and then of each command that was never answered.
 abbrev pub CountsConversation : Option Form → Bool → (ℕ → List Entry → Type 0) → List ℕ → List ℕ → Type 0
 CountsConversation form only P bytes wrote =
     (text : List ℕ) × (s : Standing)
-    × Whole (λ lines written. (told : List Entry) × Converses form only lines written told s × P (length lines) (told ++ unanswered_entries s)) bytes text
-    × (wrote ≡ text ++ unanswered_lines form s)
+    × Whole (λ lines written. (told : List Entry) × Converses form only lines written told s
+    × P (length lines) (told ++ unanswered_entries (unanswered_commands s))) bytes text
+    × (wrote ≡ text ++ unanswered_lines form (unanswered_commands s))
+
+-- the same, and the conversation has a fault if something is told that is one
+abbrev pub TellsConversation : Option Form → Bool → Bool → List ℕ → List ℕ → Type 0
+TellsConversation form only some bytes wrote = CountsConversation form only (λ n told. some ≡ any_fault told) bytes wrote
 
 -- some lines at the front were told of by this text
 abbrev pub IsTranscript : Option Form → Bool → List (List ℕ) → List ℕ → Type 0
@@ -270,10 +299,10 @@ IsTranscript form only lines text = (told : List Entry) × (s : Standing) × Con
 
 -- What a fault behind the last line of an input says, whose end was told: all lines were told of.
 abbrev pub StopsBehind : Option Form → Bool → LinesFault → List ℕ → List ℕ → Type 0
--- and a beginning was written of what is told of the commands that wait
+-- and a beginning was written of what is told of the commands that were never answered
 StopsBehind form only Write read wrote =
     (text : List ℕ) × (s : Standing) × (part : List ℕ) × Whole (λ lines written. (told : List Entry) × Converses form only lines written told s) read text
-    × IsCutOff part (unanswered_lines form s) × (wrote ≡ text ++ part)
+    × IsCutOff part (unanswered_lines form (unanswered_commands s)) × (wrote ≡ text ++ part)
 -- and nothing else
 StopsBehind form only NoMemory read wrote = Whole (IsTranscript form only) read wrote
 StopsBehind form only f read wrote = ⊥

@@ -14,9 +14,8 @@ use Rattle.bidi_local.specs.Received.{Meaning}
 use Rattle.bidi_local.specs.Receiving.{IsMeaningOf}
 use Rattle.bidi_local.specs.declared.local_end.NoteFault.TheVariants.{IdWaits, TooManyPending}
 use Rattle.bidi_show.specs.MessageLines.{HasVerdict}
-use Rattle.bidi_why.specs.Conversing.{IsTold, Standing, kind_in, was_refused, with_command, with_refused, without_refused}
+use Rattle.bidi_why.specs.Conversing.{IsTold, Standing, kind_in, of_id, was_refused, with_command, with_refused, without_refused}
 use Rattle.bidi_remarks.specs.Remark.{Remark, id_waits, stray, too_many}
-use Rattle.bidi_why.specs.declared.ids.Kept.TheVariants.{Id}
 use Rattle.bidi_why.specs.declared.judging.Judged.{Judged}
 use Rattle.bidi_why.specs.declared.judging.Judged.TheVariants.{Accepted, Refused}
 
@@ -29,7 +28,7 @@ IsJudged text (Refused id code) = HasVerdict text (verdict.Refused (option_map (
 pub data Notes (n : ℕ) (s : Standing) (id : ℕ) (method : Method) : Option Remark → Standing → Type 0 where
   waits : note_refusal s.waiting id ≡ None → Notes n s id method None (with_command n id method s)
   is_twice : note_refusal s.waiting id ≡ Some IdWaits → Notes n s id method (Some (id_waits id method)) s
-  is_one_too_many : note_refusal s.waiting id ≡ Some TooManyPending → Notes n s id method (Some (too_many id method)) (with_refused (Id id) s)
+  is_one_too_many : note_refusal s.waiting id ≡ Some TooManyPending → Notes n s id method (Some (too_many id method)) (with_refused (of_id id) s)
 
 -- the id and the `type` of a response or an error of this tree
 pub data IsSender (t : Node) (id : Option ℕ) (kind : List ℕ) : Type 0 where

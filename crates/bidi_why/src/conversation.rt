@@ -1,27 +1,23 @@
 //! What tells of the lines of a conversation.
-ghost use Rattle.std.specs.Prelude.{◌≡◌, ◌∷◌, [], ◌++◌, ℕ, ◌<◌, List, true, false, Some, None, length, map, position, IfOk, IfSome, OnOk, MatchOption, ◌==◌, is_some, option_map, if◌then◌else◌};
-ghost use Rattle.std.specs.List.{list_any};
+ghost use Rattle.std.specs.Prelude.{◌≡◌, ◌++◌, ℕ, ◌<◌, List, true, false, Some, None, map, IfOk, OnOk, MatchOption, is_some, option_map, if◌then◌else◌};
 ghost use Rattle.bidi_tree.specs.Text.{tree_of};
 ghost use Rattle.bidi_lines.specs.InputLines.{IsLine};
 ghost use Rattle.bidi_lines.specs.declared.side.Side.TheVariants.{Local, Remote};
 ghost use Rattle.bidi_messages.specs.Message.{error_text, error_tree};
 ghost use Rattle.bidi_messages.specs.Reading.{IsMessageText};
-ghost use Rattle.bidi_messages.specs.View.{verdict_of};
-ghost use Rattle.bidi_show.specs.MessageLines.{HasVerdict, Refuses};
+ghost use Rattle.bidi_show.specs.MessageLines.{Refuses};
 ghost use Rattle.bidi_local.specs.Pending.{Pending, method_of};
 ghost use Rattle.bidi_local.specs.Received.{IsSettledBy};
 ghost use Rattle.bidi_local.specs.View.{meaning_of};
 ghost use Rattle.bidi_local.specs.Outcome.{IsOutcomeOf};
 ghost use Rattle.bidi_remarks.specs.Explaining.{told_of};
-ghost use Rattle.bidi_why.specs.Conversing.{Hears, HearsLine, Standing, answered, at_line, entry_of, kept_remarks, remark_lines, lines_left, lines_without, settled_id, silence, was_refused, with_answer};
+ghost use Rattle.bidi_why.specs.Conversing.{Hears, HearsLine, answered, at_line, entry_of, kept_remarks, remark_lines, settled_id, silence, was_refused, with_answer};
 ghost use Rattle.bidi_why.specs.Conversing.{kept_of, with_refused, without_command, without_refused};
-ghost use Rattle.bidi_why.specs.Explainers.{HasConversed, standing_of, text_in};
+ghost use Rattle.bidi_why.specs.Explainers.{HasConversed, kept_in, standing_of, text_in};
 ghost use Rattle.bidi_why.specs.Summary.{entries_in};
-ghost use Rattle.bidi_why.specs.Hearing.{IsJudged, IsSender, IsStray, Notes, Takes};
+ghost use Rattle.bidi_why.specs.Hearing.{IsStray, Notes, Takes};
 ghost use Rattle.bidi_why.specs.Input.{IsOf};
-ghost use Rattle.bidi_remarks.specs.Remark as told;
 ghost use Rattle.bidi_remarks.specs.Remark.{remark_of};
-ghost use Rattle.bidi_remarks.specs.Trouble.{trouble_of};
 
 use crate::explainer::Explainer;
 use crate::ids::{Kept, forget, is_among, kept_of, remove_first};
@@ -44,7 +40,7 @@ use bidi_tree::JsUint;
 use json::Scratch;
 use std::alloc::{AllocError, Global};
 
-/// How many ids of refused texts are kept.
+/// How many answers to refused messages are kept.
 const MOST_REFUSED: usize = 1024;
 
 /// What tells of the lines of a conversation.
@@ -57,8 +53,8 @@ pub(crate) struct Conversation {
     pub end: LocalEnd,
     /// The id of each command that waits, and the number of its line.
     pub lines: Vec<(u64, u64)>,
-    // The ids that the answers to refused texts can have which have no answer yet.
-    refused: Vec<Kept>,
+    /// The answers that refused messages allow and that did not come yet.
+    pub refused: Vec<Kept>,
     // What the lines are read in.
     scratch: Box<Scratch>,
 }
@@ -161,7 +157,7 @@ impl Conversation {
             Judged::Refused(id, code) => {
                 let brief = refused_line(alloc, id, code)?;
                 let why = trouble_in(alloc, Side::Local, text, self.scratch.as_mut())?;
-                self.refuse(kept_of(id, &why))?;
+                self.refuse(kept_of(alloc, number, id, &why)?)?;
                 Ok(Some(Remark::Fault(Some(Side::Local), None, brief, why)))
             }
         }
@@ -193,14 +189,14 @@ impl Conversation {
         }
     }
 
-    // A text was refused, whose answer can have this id.
-    fn refuse(&mut self, id: Kept) -> Result<(), AllocError>
+    // A message was refused that allows this answer.
+    fn refuse(&mut self, answer: Kept) -> Result<(), AllocError>
         ensures form { self.new.form ≡ self.old.form }
         ensures only { self.new.profile_only ≡ self.old.profile_only }
-        ensures refused { OnOk result (standing_of self.new ≡ with_refused id (standing_of self.old)) }
+        ensures refused { OnOk result (standing_of self.new ≡ with_refused (kept_in answer) (standing_of self.old)) }
     {
         if self.refused.len() < MOST_REFUSED {
-            self.refused.push(id)?;
+            self.refused.push(answer)?;
         }
         Ok(())
     }

@@ -1,24 +1,21 @@
 //! Listings of what is wrong with the lines of a conversation.
 ghost use Rattle.std.specs.Prelude.{◌≡◌, ℕ, ◌+◌, ◌++◌, ◌<◌, ◌≤◌, ◌^◌, List, None, true, false, is_some, length, IfOk, IfErr, OnErr, OnOk, IsTrue, MatchResult};
 ghost use Rattle.std.specs.Io.KnownBytes.{Appends};
-ghost use Rattle.std.specs.List.{flat_map};
 ghost use Rattle.bidi_lines.specs.Devices.{Moves};
 ghost use Rattle.bidi_lines.specs.InputLines.{most_lines};
 ghost use Rattle.bidi_lines.specs.Stops.{failed_reads, failed_writes};
-ghost use Rattle.bidi_why.specs.Conversing.{CountsConversation, StopsConversation, TellsConversation, unanswered_entries, unanswered_lines};
+ghost use Rattle.bidi_why.specs.Conversing.{CountsConversation, StopsConversation, TellsConversation, unanswered_commands, unanswered_entries, unanswered_lines};
 ghost use Rattle.bidi_why.specs.Explainers.{standing_of};
-ghost use Rattle.bidi_remarks.specs.Remark as remarks;
 ghost use Rattle.bidi_why.specs.Summary.{Entry, IsSum, SumsUp};
 ghost use Rattle.bidi_why.specs.Telling.{StopsLine};
 
 use crate::conversation::Conversation;
 use crate::listing::{tell_lines, write};
 use crate::sum::Sum;
+use crate::unanswered::{Unanswered, unanswered_commands, unanswered_lines};
 use bidi_lines::{LinesFault, Sink, Source};
-use bidi_messages::Method;
-use bidi_remarks::{Form, unanswered_line};
-use bidi_tree::JsUint;
-use std::alloc::{AllocError, Global};
+use bidi_remarks::Form;
+use std::alloc::Global;
 
 /// Tells what is wrong in a conversation of both ends, and returns whether anything is.
 ///
@@ -27,7 +24,8 @@ use std::alloc::{AllocError, Global};
 /// that sent just these commands, and messages mean what they mean to it. So it is told, too, where a command has the id of one that waits, or comes
 /// while 1,024 wait; where a response or an error answers no command that waits; where a result does not fit the rule of its command's method; where a
 /// command failed, which is no fault; and, behind the last line, which commands were never answered. Of an answer to a text that was refused nothing
-/// is told, as long as its id is one of the first 1,024 such ids without an answer.
+/// is told, as long as its id is one of the first 1,024 such ids without an answer. A command that was refused as beyond the profile is told with those
+/// that were never answered, as long as its id is such an id and its method has at most 4,096 bytes.
 ///
 /// A refused text of the remote end answers the command whose id it has. Its line says so, and the command no longer waits.
 ///
@@ -80,64 +78,39 @@ pub fn explain_both<R: Source, W: Sink, F: Sink>(
     let mut conversation = Conversation::new(alloc, form, profile_only)?;
     let mut sum = Sum::new(alloc);
     tell_lines(alloc, &mut conversation, &mut sum, source, sink)?;
-    tell_waiting(alloc, &conversation, &mut sum, sink)?;
+    tell_unanswered(alloc, &conversation, &mut sum, sink)?;
     if form.is_none() {
         return Ok(sum.has_fault);
     }
     Ok(sum.tell(faults))
 }
 
-// Writes what is told of the commands without an answer.
-fn tell_waiting<W: Sink>(
+// Writes what is told of the commands that were never answered.
+fn tell_unanswered<W: Sink>(
     alloc: Global,
     conversation: &Conversation,
     sum: &mut Sum,
     sink: &mut W,
 ) -> Result<(), LinesFault>
     ensures sum { OnOk result ((n : ℕ) (told : List Entry) → length told ≤ most_lines → IsSum sum.old n told
-        → IsSum sum.new n (told ++ unanswered_entries (standing_of conversation.now))) }
+        → IsSum sum.new n (told ++ unanswered_entries (unanswered_commands (standing_of conversation.now)))) }
     ensures ok { OnOk result (Appends (W.contents sink.old) (W.contents sink.new)
-        (unanswered_lines conversation.now.form (standing_of conversation.now))) }
-    ensures err { IfErr result (λ fault. StopsLine (λ text. text ≡ unanswered_lines conversation.now.form (standing_of conversation.now)) fault
+        (unanswered_lines conversation.now.form (unanswered_commands (standing_of conversation.now)))) }
+    ensures err { IfErr result (λ fault. StopsLine (λ text. text ≡ unanswered_lines conversation.now.form (unanswered_commands (standing_of conversation.now))) fault
         (W.contents sink.old) (W.contents sink.new)) }
     ensures writes { MatchResult result (λ _. W.failures sink.new ≡ W.failures sink.old)
         (λ fault. W.failures sink.new ≡ W.failures sink.old + failed_writes fault) }
 {
-    let waiting = conversation.end.waiting()?;
-    sum.count_unanswered(alloc, number_of(&waiting))?;
-    let text = unanswered_lines(alloc, conversation.form, &conversation.lines, &waiting)?;
+    let commands = unanswered_commands(alloc, conversation)?;
+    sum.count_unanswered(alloc, number_of(&commands))?;
+    let text = unanswered_lines(alloc, conversation.form, &commands)?;
     write(sink, &text)
 }
 
 // How many they are.
-fn number_of(waiting: &[(JsUint, Method)]) -> usize
-    ensures is { result ≡ length waiting.now }
+fn number_of(commands: &[Unanswered<'_>]) -> usize
+    ensures is { result ≡ length commands.now }
     ensures few { result < 2 ^ 63 }
 {
-    waiting.len()
-}
-
-// What is written for the commands without an answer.
-fn unanswered_lines(
-    alloc: Global,
-    form: Option<Form>,
-    lines: &[(u64, u64)],
-    waiting: &[(JsUint, Method)],
-) -> Result<Vec<u8>, AllocError>
-    ensures { IfOk result (λ text. text.items
-        ≡ flat_map (λ w. remarks.unanswered_line form (remarks.line_of lines.now w.0.value) (w.0.value, w.1)) waiting.now) }
-{
-    let mut text = Vec::new(alloc);
-    for (id, method) in waiting {
-        let number = line_of(lines, id.value);
-        text.extend_from_slice(&unanswered_line(alloc, form, number, *id, *method)?)?;
-    }
-    Ok(text)
-}
-
-// The line of the command with this id, if these lines have it.
-fn line_of(lines: &[(u64, u64)], id: u64) -> Option<u64>
-    ensures { result ≡ remarks.line_of lines.now id }
-{
-    lines.iter().find(|line| line.0 == id).map(|line| line.1)
+    commands.len()
 }

@@ -14,6 +14,7 @@ mod listing;
 mod next_line;
 mod one_side;
 mod sum;
+mod unanswered;
 mod writing;
 
 pub use bidi_remarks::Form;

@@ -17,15 +17,15 @@ returns-in_err-tell_lines-clause-err g c =
     by_fault c.from_residual-in_err-tell_lines.result fault _ c.from_residual-in_err-tell_lines.ensures
     (read, wrote, consumes, appends, inl (stops_as _ _ (reports_as told) fault _ read wrote stops))
 
-pub returns-in_err-tell_waiting-clause-err : goal.returns-in_err-tell_waiting-clause-err
-returns-in_err-tell_waiting-clause-err g c =
-    let fault = c.in_err-tell_waiting.field-0.0 in
+pub returns-in_err-tell_unanswered-clause-err : goal.returns-in_err-tell_unanswered-clause-err
+returns-in_err-tell_unanswered-clause-err g c =
+    let fault = c.in_err-tell_unanswered.field-0.0 in
     let made = c.in_ok-conversation.ensures in
     let (read, wrote, consumes, appends, whole) = c.in_ok-tell_lines.ensures.ok in
     let (more, part, stops) =
     stops_behind c.args.form c.args.profile_only c.in_ok-conversation.conversation c.tell_lines.new.explainer made.form made.only
-    c.tell_lines.new.sum fault _ _ (g.R.Source.has_ended c.tell_lines.new.source) read wrote whole c.in_ok-tell_lines.ensures.end c.in_err-tell_waiting.ensures.err in
-    by_fault c.from_residual-in_err-tell_waiting.result fault _ c.from_residual-in_err-tell_waiting.ensures (
+    c.tell_lines.new.sum fault _ _ (g.R.Source.has_ended c.tell_lines.new.source) read wrote whole c.in_ok-tell_lines.ensures.end c.in_err-tell_unanswered.ensures.err in
+    by_fault c.from_residual-in_err-tell_unanswered.result fault _ c.from_residual-in_err-tell_unanswered.ensures (
       read,
       wrote ++ more,
       consumes,
@@ -39,8 +39,8 @@ returns-then-is_none-clause-ok g c =
     let (read, wrote, consumes, appends, whole) = c.in_ok-tell_lines.ensures.ok in
     let (text, rest, tells) =
     tells_both c.args.form c.args.profile_only c.in_ok-conversation.conversation c.tell_lines.new.explainer made.form made.only
-    c.tell_lines.new.sum c.tell_waiting.new.sum _ _ c.tell_waiting.new.sum.has_fault read wrote whole c.in_ok-tell_waiting.ensures.ok
-    c.in_ok-tell_waiting.ensures.sum refl in
+    c.tell_lines.new.sum c.tell_unanswered.new.sum _ _ c.tell_unanswered.new.sum.has_fault read wrote whole c.in_ok-tell_unanswered.ensures.ok
+    c.in_ok-tell_unanswered.ensures.sum refl in
     (read, wrote ++ text, consumes, Appends-trans _ _ _ _ _ appends rest, tells)
 
 pub returns-then-is_none-clause-summary : goal.returns-then-is_none-clause-summary
@@ -51,10 +51,10 @@ returns-then-is_none-clause-summary g c =
     let failed = g.F.Sink.failures c.args.faults.now in
     let (text, rest, tells) =
     counts_both c.args.form c.args.profile_only c.in_ok-conversation.conversation c.tell_lines.new.explainer made.form made.only
-    c.tell_lines.new.sum c.tell_waiting.new.sum _ _ read wrote
-    (λ (n : ℕ) (told : List Entry). is_some c.args.form ≡ true → c.tell_waiting.new.sum.has_fault ≡ true → SumsUp held held failed failed n told)
-    whole c.in_ok-tell_waiting.ensures.ok
-    c.in_ok-tell_waiting.ensures.sum (λ n told s is_form some. absurd (no_form (is_some c.args.form) (sym c.if-is_none.ensures) is_form)) in
+    c.tell_lines.new.sum c.tell_unanswered.new.sum _ _ read wrote
+    (λ (n : ℕ) (told : List Entry). is_some c.args.form ≡ true → c.tell_unanswered.new.sum.has_fault ≡ true → SumsUp held held failed failed n told)
+    whole c.in_ok-tell_unanswered.ensures.ok
+    c.in_ok-tell_unanswered.ensures.sum (λ n told s is_form some. absurd (no_form (is_some c.args.form) (sym c.if-is_none.ensures) is_form)) in
     (read, wrote ++ text, consumes, Appends-trans _ _ _ _ _ appends rest, tells)
 
 pub returns-clause-ok : goal.returns-clause-ok
@@ -63,8 +63,8 @@ returns-clause-ok g c =
     let (read, wrote, consumes, appends, whole) = c.in_ok-tell_lines.ensures.ok in
     let (text, rest, tells) =
     tells_both c.args.form c.args.profile_only c.in_ok-conversation.conversation c.tell_lines.new.explainer made.form made.only
-    c.tell_lines.new.sum c.tell_waiting.new.sum _ _ c.tell.result read wrote whole c.in_ok-tell_waiting.ensures.ok
-    c.in_ok-tell_waiting.ensures.sum c.tell.ensures.some in
+    c.tell_lines.new.sum c.tell_unanswered.new.sum _ _ c.tell.result read wrote whole c.in_ok-tell_unanswered.ensures.ok
+    c.in_ok-tell_unanswered.ensures.sum c.tell.ensures.some in
     (read, wrote ++ text, consumes, Appends-trans _ _ _ _ _ appends rest, tells)
 
 pub returns-clause-summary : goal.returns-clause-summary
@@ -77,8 +77,8 @@ returns-clause-summary g c =
     let failed' = g.F.Sink.failures c.tell.new.faults in
     let (text, rest, tells) =
     counts_both c.args.form c.args.profile_only c.in_ok-conversation.conversation c.tell_lines.new.explainer made.form made.only
-    c.tell_lines.new.sum c.tell_waiting.new.sum _ _ read wrote
+    c.tell_lines.new.sum c.tell_unanswered.new.sum _ _ read wrote
     (λ (n : ℕ) (told : List Entry). is_some c.args.form ≡ true → c.tell.result ≡ true → SumsUp held held' failed failed' n told)
-    whole c.in_ok-tell_waiting.ensures.ok
-    c.in_ok-tell_waiting.ensures.sum (λ n told s is_form some. c.tell.ensures.told some n told s) in
+    whole c.in_ok-tell_unanswered.ensures.ok
+    c.in_ok-tell_unanswered.ensures.sum (λ n told s is_form some. c.tell.ensures.told some n told s) in
     (read, wrote ++ text, consumes, Appends-trans _ _ _ _ _ appends rest, tells)

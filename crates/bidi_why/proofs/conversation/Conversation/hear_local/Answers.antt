@@ -19,4 +19,4 @@ returns-in_ok-refuse-in-Refused-clause-heard c =
     heard_refused c.args.number (standing_of c.args.self.now) (standing_of c.refuse.new.self) c.args.text.now c.in_ok-id.field-0 c.in-Refused.id c.in-Refused.code
     (string_bytes c.in_ok-brief-in-Refused.brief) (trouble_of c.in_ok-why-in-Refused.why) c.in_ok-id.ensures c.in-Refused.is
     c.in_ok-brief-in-Refused.ensures c.in_ok-why-in-Refused.ensures
-    (c.in_ok-refuse-in-Refused.ensures.refused ∙ ap (λ k. with_refused k (standing_of c.args.self.now)) c.kept_of.ensures)
+    (c.in_ok-refuse-in-Refused.ensures.refused ∙ ap (λ k. with_refused k (standing_of c.args.self.now)) c.in_ok-kept_of-in-Refused.ensures)
