@@ -1,6 +1,7 @@
 -- What a text that is sent adds to what waits.
-use Rattle.std.proofs.Common.{◌≡◌, ◌∙◌, ◌++◌, ◌+◌, ◌<◌, ℕ, List, Option, None, Some, Ok, Err, ap, append_assoc, arith, inl, inr, length, refl, subst, sym, ◌⊎◌}
+use Rattle.std.proofs.Common.{◌≡◌, ◌∙◌, ◌++◌, ◌+◌, ◌<◌, ℕ, List, [], Option, None, Some, Ok, Err, ap, append_assoc, arith, inl, inr, length, Result, refl, subst, sym, ◌⊎◌}
 use Rattle.std.proofs.lemmas.List.{length-append}
+use Rattle.std.specs.declared.io.ErrorKind.{ErrorKind}
 use Rattle.websocket.specs.Connection.{Connection, Effect, IsMaskOf, check_can_write, check_close, close_step, close_to, closing_state, send, whole_header, write_step}
 use Rattle.websocket.specs.Content.{close_payload, text}
 use Rattle.websocket.specs.Frame.{Checked, after_check, encode_frame}
@@ -17,8 +18,9 @@ use Rattle.websocket.specs.declared.protocol.state.WebSocketState.TheVariants.{A
 use Rattle.bidi_peer.specs.declared.standing.Peer.{Peer}
 use Rattle.bidi_peer.specs.declared.standing.State.{State}
 use Rattle.bidi_peer.specs.declared.standing.State.TheVariants.{Closing, Open}
-use Rattle.bidi_peer.specs.Sending.{Flushes, HasNoRoom, IsLittle, KeepsWhatCame, PutsFrame, Sends, SendsClose, bytes_frame, close_frame, text_frame}
+use Rattle.bidi_peer.specs.Sending.{Flushes, HasNoRoom, IsFlushed, IsLittle, KeepsWhatCame, PutsFrame, Sends, SendsClose, bytes_frame, close_frame, text_frame}
 use Rattle.bidi_peer.specs.Closing.{code_of, reason_of}
+use Rattle.bidi_peer.specs.Streams.{Blocked}
 use Rattle.bidi_peer.specs.Telling.{HasFailed, StaysUnlessFailed}
 use Rattle.bidi_peer.specs.declared.framing.Fault.TheVariants.{Slow}
 use Rattle.bidi_peer.specs.Waiting.{Writes, unwritten}
@@ -90,17 +92,25 @@ module _ {S : Type 0} (contents : S → Option (List ℕ)) where
   sent t a b c d (inr before) stays put (inl failed) still = absurd (open-failed d.state still failed)
   sent t a b c d (inr before) stays put (inr after) still = puts-sends t a b c d before put after
 
+  -- where it is open, nothing waited after a flush, or the stream took nothing for now
+  was_tried : (writes : S → Result ℕ ErrorKind → S → Type 0) (b : Peer S) → b.state ≡ Open → IsFlushed writes b
+      → (unwritten b.outbox ≡ []) ⊎ Blocked writes b.stream
+  was_tried writes b opened (inl failed) = absurd (open-failed b.state opened failed)
+  was_tried writes b opened (inr tried) = tried
+
   -- where it is open, a frame without room closes it, unless its stream fails
-  pub no_room : (t : List ℕ) (a b d : Peer S) → HasFailed b.state ⊎ Flushes contents a b → b.state ≡ Open → b.most_waiting < length (unwritten b.outbox) + length t
-      → StaysUnlessFailed Closing d.state → SendsClose contents (code_of Slow) (reason_of Slow) b d → StaysUnlessFailed Open d.state ⊎ HasNoRoom contents t a d
-  no_room t a b d (inl failed) opened full ends close = absurd (open-failed b.state opened failed)
-  no_room t a b d (inr before) opened full (inr failed) close = inl (inr failed)
-  no_room t a b d (inr before) opened full (inl closing) (inl failed) = inl (inr failed)
-  no_room t a b d (inr before) opened full (inl closing) (inr close) = inr (record {
+  pub no_room : (writes : S → Result ℕ ErrorKind → S → Type 0) (t : List ℕ) (a b d : Peer S) → HasFailed b.state ⊎ Flushes contents a b → b.state ≡ Open → b.most_waiting < length (unwritten b.outbox) + length t
+      → IsFlushed writes b → StaysUnlessFailed Closing d.state → SendsClose contents (code_of Slow) (reason_of Slow) b d
+      → StaysUnlessFailed Open d.state ⊎ HasNoRoom contents writes t a d
+  no_room writes t a b d (inl failed) opened full tried ends close = absurd (open-failed b.state opened failed)
+  no_room writes t a b d (inr before) opened full tried (inr failed) close = inl (inr failed)
+  no_room writes t a b d (inr before) opened full tried (inl closing) (inl failed) = inl (inr failed)
+  no_room writes t a b d (inr before) opened full tried (inl closing) (inr close) = inr (record {
     closes = closing;
     rest = unwritten b.outbox;
     stream = b.stream;
     writes = before.writes;
+    tried = was_tried writes b opened tried;
     full = subst (λ m. m < length (unwritten b.outbox) + length t) before.bound full;
     close = close;
   })

@@ -43,6 +43,7 @@ module _ {S : Type 0} where
     pub state : new.state ≡ old.state
     pub context : new.context ≡ old.context
     pub inbox : untaken new.inbox ≡ untaken old.inbox
+    pub least : new.least ≡ old.least
     pub bound : new.most_waiting ≡ old.most_waiting
     pub writes : Writes contents (unwritten old.outbox) (unwritten new.outbox) old.stream new.stream
 
@@ -81,10 +82,11 @@ module _ {S : Type 0} where
   IsLittle frame old = (length (unwritten old.outbox) + length frame ≤ old.most_waiting) × (length (unwritten old.outbox) + length frame < write_from)
 
   -- The stream took what it could, and with the frame, or the bytes without one, the rest is past the bound: the connection closes, by a close frame behind the rest.
-  pub record HasNoRoom (contents : S → Option (List ℕ)) (frame : List ℕ) (old new : Peer S) : Type 0 where
+  pub record HasNoRoom (contents : S → Option (List ℕ)) (calls : S → Result ℕ ErrorKind → S → Type 0) (frame : List ℕ) (old new : Peer S) : Type 0 where
     pub closes : new.state ≡ Closing
     pub rest : List ℕ
     pub stream : S
     pub writes : Writes contents (unwritten old.outbox) rest old.stream stream
+    pub tried : (rest ≡ []) ⊎ Blocked calls stream
     pub full : old.most_waiting < length rest + length frame
     pub close : Writes contents (rest ++ close_frame (code_of Slow) (reason_of Slow)) (unwritten new.outbox) stream new.stream

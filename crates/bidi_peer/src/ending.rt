@@ -44,6 +44,8 @@ impl<S: Stream> Peer<S> {
         ensures else_same { (IsUnclosed self.old.state → ⊥) → self.new ≡ self.old }
         // After an error the state is unchanged.
         ensures err { OnErr result (self.new.state ≡ self.old.state) }
+        // The bound of what waits to be written is the same.
+        ensures bound { self.new.most_waiting ≡ self.old.most_waiting }
     {
         match self.state {
             State::Head | State::Asked(_) | State::Called => {
@@ -89,6 +91,8 @@ impl<S: Stream> Peer<S> {
         ensures known { (IsInHandshake self.old.state → ⊥) → SameKnown self.old.end self.new.end }
         // After an error the state is unchanged.
         ensures err { OnErr result (self.new.state ≡ self.old.state) }
+        // The bound of what waits to be written is the same.
+        ensures bound { self.new.most_waiting ≡ self.old.most_waiting }
     {
         match self.state {
             State::Open if self.came() > self.outbox.len() => {
@@ -113,6 +117,7 @@ impl<S: Stream> Peer<S> {
         ensures err { OnErr result (self.new.state ≡ self.old.state) }
         ensures came { OnErr result (KeepsWhatCame self.old self.new) }
         ensures sends { self.old.state ≡ Open → OnOk result (SendsClose S.contents (code_of fault) (reason_of fault) self.old self.new) }
+        ensures bound { self.new.most_waiting ≡ self.old.most_waiting }
     {
         self.put_close(fault.code(), fault.reason())?;
         self.owe_end();
@@ -128,6 +133,7 @@ impl<S: Stream> Peer<S> {
         ensures err { OnErr result (self.new.state ≡ self.old.state) }
         ensures came { OnErr result (KeepsWhatCame self.old self.new) }
         ensures puts { self.old.state ≡ Open → OnOk result ((self.new.stream ≡ self.old.stream) × (unwritten self.new.outbox ≡ unwritten self.old.outbox ++ close_frame code reason.now)) }
+        ensures bound { self.new.most_waiting ≡ self.old.most_waiting }
     {
         write_close(&mut self.context, code, reason, &mut self.outbox.second)?;
         self.state = State::Closing;
@@ -147,6 +153,7 @@ impl<S: Stream> Peer<S> {
         ensures state { self.new.state ≡ self.old.state }
         ensures stream { self.new.stream ≡ self.old.stream }
         ensures outbox { unwritten self.new.outbox ≡ unwritten self.old.outbox }
+        ensures bound { self.new.most_waiting ≡ self.old.most_waiting }
     {
         if self.end == End::Known {
             Came::Nothing
@@ -170,6 +177,7 @@ impl<S: Stream> Peer<S> {
         ensures told { HasEnded self.new.state → self.new.end ≡ Known }
         ensures timely { IsTimely self.new.state result }
         ensures dry { came ≢ Nothing → IsDry S.reads self.new result }
+        ensures bound { self.new.most_waiting ≡ self.old.most_waiting }
     {
         if self.has_ended() {
             self.tell_end()
@@ -196,6 +204,7 @@ impl<S: Stream> Peer<S> {
     pub(crate) fn lose(&mut self, failure: Failure)
         ensures end { self.new.end ≡ owed self.old.end }
         ensures state { self.new.state ≡ Failed failure }
+        ensures bound { self.new.most_waiting ≡ self.old.most_waiting }
     {
         self.outbox.clear();
         self.stop(State::Failed(failure));
@@ -207,6 +216,7 @@ impl<S: Stream> Peer<S> {
         ensures state { self.new.state ≡ Done }
         ensures forgets { (untaken self.new.inbox ≡ []) × (self.new.fragments ≡ 0) }
         ensures frees { unwritten self.new.outbox ≡ [] }
+        ensures bound { self.new.most_waiting ≡ self.old.most_waiting }
     {
         self.outbox.clear();
         self.stop(State::Done);
@@ -218,6 +228,7 @@ impl<S: Stream> Peer<S> {
         ensures state { self.new.state ≡ Leaving }
         ensures stream { self.new.stream ≡ self.old.stream }
         ensures outbox { unwritten self.new.outbox ≡ unwritten self.old.outbox }
+        ensures bound { self.new.most_waiting ≡ self.old.most_waiting }
     {
         self.stop(State::Leaving);
     }
@@ -231,6 +242,7 @@ impl<S: Stream> Peer<S> {
         ensures stream { self.new.stream ≡ self.old.stream }
         ensures outbox { unwritten self.new.outbox ≡ unwritten self.old.outbox }
         ensures forgets { (untaken self.new.inbox ≡ []) × (self.new.fragments ≡ 0) }
+        ensures bound { self.new.most_waiting ≡ self.old.most_waiting }
     {
         let end = self.end.owed();
         self.state = state;
@@ -246,6 +258,7 @@ impl<S: Stream> Peer<S> {
         ensures stream { self.new.stream ≡ self.old.stream }
         ensures outbox { unwritten self.new.outbox ≡ unwritten self.old.outbox }
         ensures forgets { (untaken self.new.inbox ≡ []) × (self.new.fragments ≡ 0) }
+        ensures bound { self.new.most_waiting ≡ self.old.most_waiting }
     {
         self.inbox.give_back();
         self.renew();
@@ -274,6 +287,7 @@ impl<S: Stream> Peer<S> {
         ensures state { self.new.state ≡ self.old.state }
         ensures outbox { unwritten self.new.outbox ≡ unwritten self.old.outbox }
         ensures stream { self.new.stream ≡ self.old.stream }
+        ensures bound { self.new.most_waiting ≡ self.old.most_waiting }
     {
         self.end = self.end.owed();
     }

@@ -32,6 +32,7 @@ impl<S: Stream> Peer<S> {
         ensures timely { IfOk result (IsTimely self.new.state) }
         ensures heard { self.old.end ≡ Ahead → IfOk result (IsHeard S.remaining S.contents self.old self.new) }
         ensures dry { IfOk result (IsDry S.reads self.new) }
+        ensures bound { self.new.most_waiting ≡ self.old.most_waiting }
     {
         for _ in 0..usize::MAX {
             let known = self.inbox.waiting().len();
@@ -64,6 +65,7 @@ impl<S: Stream> Peer<S> {
         ensures dry { IfOk result (λ came. IfSome came (IsDry S.reads self.new)) }
         ensures speaks { self.old.end ≡ Ahead → IfOk result (λ came. came ≢ Some Nothing) }
         ensures unfinished { IfOk result (λ came. came ≡ None → IsUnfinished self.new.least (untaken self.new.inbox)) }
+        ensures bound { self.new.most_waiting ≡ self.old.most_waiting }
     {
         match asked {
             Asked::Part => {
@@ -103,6 +105,7 @@ impl<S: Stream> Peer<S> {
         ensures err { OnErr result (self.new.state ≡ self.old.state) }
         ensures flushed { OnOk result (IsFlushed S.writes self.new) }
         ensures writes { OnOk result (HasFailed self.new.state ⊎ Writes S.contents (unwritten self.old.outbox ++ answer_bytes answer) (unwritten self.new.outbox) self.old.stream self.new.stream) }
+        ensures bound { self.new.most_waiting ≡ self.old.most_waiting }
     {
         let text = answer.text(self.alloc)?;
         self.leave_with(text.as_str())
@@ -116,6 +119,7 @@ impl<S: Stream> Peer<S> {
         ensures err { OnErr result (self.new.state ≡ self.old.state) }
         ensures flushed { OnOk result (IsFlushed S.writes self.new) }
         ensures writes { OnOk result (HasFailed self.new.state ⊎ Writes S.contents (unwritten self.old.outbox ++ text.now) (unwritten self.new.outbox) self.old.stream self.new.stream) }
+        ensures bound { self.new.most_waiting ≡ self.old.most_waiting }
     {
         self.outbox.put(text.as_bytes())?;
         self.leave();
@@ -142,6 +146,8 @@ impl<S: Stream> Peer<S> {
         ensures begins { IsAsked self.old.state → OnOk result (self.new.state ≡ Open → IsFresh self.new.context × (untaken self.new.inbox ≡ untaken self.old.inbox)) }
         // After an error the state is unchanged.
         ensures err { OnErr result (self.new.state ≡ self.old.state) }
+        // The bound of what waits to be written is the same.
+        ensures bound { self.new.most_waiting ≡ self.old.most_waiting }
     {
         let State::Asked(accept) = self.state else {
             return Ok(());
@@ -173,6 +179,8 @@ impl<S: Stream> Peer<S> {
         ensures flushed { IsAsked self.old.state → OnOk result (IsFlushed S.writes self.new) }
         // The bytes of the answer follow what waited to be written, unless the stream failed.
         ensures answers { IsAsked self.old.state → OnOk result (HasFailed self.new.state ⊎ Writes S.contents (unwritten self.old.outbox ++ answer_bytes (Refused refusal)) (unwritten self.new.outbox) self.old.stream self.new.stream) }
+        // The bound of what waits to be written is the same.
+        ensures bound { self.new.most_waiting ≡ self.old.most_waiting }
     {
         let State::Asked(_) = self.state else {
             return Ok(());
@@ -200,6 +208,8 @@ impl<S: Stream> Peer<S> {
         ensures flushed { IsCalled self.old.state → OnOk result (IsFlushed S.writes self.new) }
         // The bytes of the reply follow what waited to be written, unless the stream failed.
         ensures answers { IsCalled self.old.state → OnOk result (HasFailed self.new.state ⊎ Writes S.contents (unwritten self.old.outbox ++ reply_bytes status json.now) (unwritten self.new.outbox) self.old.stream self.new.stream) }
+        // The bound of what waits to be written is the same.
+        ensures bound { self.new.most_waiting ≡ self.old.most_waiting }
     {
         let State::Called = self.state else {
             return Ok(());

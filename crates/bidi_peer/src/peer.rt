@@ -131,6 +131,8 @@ impl<S: Stream> Peer<S> {
         ensures dry { IfOk result (IsDry S.reads self.new) }
         // After a failed allocation nothing more is read or written.
         ensures err { OnErr result (self.new.state ≡ Done) }
+        // The bound of what waits to be written is the same.
+        ensures bound { self.new.most_waiting ≡ self.old.most_waiting }
     {
         let came = self.take_in_state();
         if came.is_err() {
@@ -153,6 +155,7 @@ impl<S: Stream> Peer<S> {
         ensures closing { self.old.state ≡ Closing → self.old.end ≡ Ahead → IfOk result (IsClosing S.remaining S.contents self.old self.new) }
         ensures wordless { self.old.state ≡ Closing → IfOk result IsWordless }
         ensures dry { IfOk result (IsDry S.reads self.new) }
+        ensures bound { self.new.most_waiting ≡ self.old.most_waiting }
     {
         if self.end == End::Due {
             return Ok(self.tell_end());

@@ -33,6 +33,7 @@ impl<S: Stream> Peer<S> {
         ensures closing { self.old.state ≡ Closing → self.old.end ≢ Known → IfOk result (IsClosing S.remaining S.contents self.old self.new) }
         ensures wordless { self.old.state ≢ Open → IfOk result IsWordless }
         ensures dry { IfOk result (IsDry S.reads self.new) }
+        ensures bound { self.new.most_waiting ≡ self.old.most_waiting }
     {
         for _ in 0..MOST_STEPS {
             if self.has_ended() {
@@ -90,6 +91,7 @@ impl<S: Stream> Peer<S> {
         ensures passes { self.old.state ≡ Closing → self.old.end ≢ Known → IfOk result (IsPassed S.remaining S.contents frame self.old self.new) }
         ensures dry { IfOk result (λ came. IfSome came (IsDry S.reads self.new)) }
         ensures received { IsLast frame ⊎ (self.old.state ≡ Open) → self.old.end ≢ Known → IfOk result (IsReceived S.remaining S.contents frame self.old self.new) }
+        ensures bound { self.new.most_waiting ≡ self.old.most_waiting }
     {
         match frame {
             Frame::Part => self.read_on(),
@@ -120,6 +122,7 @@ impl<S: Stream> Peer<S> {
         ensures dry { IfOk result (λ came. IfSome came (IsDry S.reads self.new)) }
         ensures rests { self.old.state ≢ Open → (result ≡ Ok None) × (self.new ≡ self.old) }
         ensures slow { self.old.end ≢ Known → IfOk result (λ came. IfSome came (λ told. (told ≡ Ended) × (self.old.state ≡ Open) × (self.old.most_waiting < length (unwritten self.old.outbox)))) }
+        ensures bound { self.new.most_waiting ≡ self.old.most_waiting }
     {
         if self.is_open() && self.outbox.len() > self.most_waiting {
             self.fail(Fault::Slow)
@@ -140,6 +143,7 @@ impl<S: Stream> Peer<S> {
         ensures wordless { IfOk result (λ came. IfSome came IsWordless) }
         ensures dry { IfOk result (λ came. IfSome came (IsDry S.reads self.new)) }
         ensures shut { OnOk result (self.new.state ≢ Open) }
+        ensures bound { self.new.most_waiting ≡ self.old.most_waiting }
     {
         self.put_close(fault.code(), fault.reason())?;
         self.flush();
@@ -164,6 +168,7 @@ impl<S: Stream> Peer<S> {
         ensures wordless { IfOk result (λ came. IfSome came IsWordless) }
         ensures dry { IfOk result (λ came. IfSome came (IsDry S.reads self.new)) }
         ensures waited { self.old.end ≢ Known → IfOk result (λ came. IfSome came (IsWaited S.remaining self.old self.new)) }
+        ensures bound { self.new.most_waiting ≡ self.old.most_waiting }
     {
         match self.inbox.fill(&mut self.stream)? {
             Filled::Some => Ok(None),

@@ -1,5 +1,5 @@
 //! What a connection sends: texts, as far as there is room and the stream takes them.
-ghost use Rattle.std.specs.Prelude.{◌≡◌, ◌≢◌, ◌≤◌, ◌<◌, ◌⊎◌, ◌+◌, length, take, IsFalse, IsTrue, OnErr, OnOk};
+ghost use Rattle.std.specs.Prelude.{◌≡◌, ◌≢◌, ◌↔◌, ◌≤◌, ◌<◌, ◌⊎◌, ◌+◌, ◌-◌, ◌^◌, length, min, take, IsFalse, IsTrue, OnErr, OnOk};
 ghost use Rattle.bidi_peer.specs.Sending.{Flushes, HasNoRoom, IsFlushed, IsLittle, KeepsWhatCame, Puts, PutsFrame, Sends, SendsBytes, SendsText, bytes_frame, text_frame, write_from};
 ghost use Rattle.bidi_peer.specs.Telling.{HasFailed, SameKnown, StaysUnlessFailed};
 ghost use Rattle.bidi_peer.specs.Waiting.{unwritten};
@@ -36,9 +36,11 @@ impl<S: Stream> Peer<S> {
         // A short text waits, and the stream is not used.
         ensures waits { self.old.state ≡ Open → IsLittle (text_frame text.now) self.old → OnOk result ((self.new.state ≡ Open) × Puts text.now self.old self.new) }
         // An open connection stays open, unless its stream failed or the text has no room.
-        ensures gives_up { self.old.state ≡ Open → OnOk result (StaysUnlessFailed Open self.new.state ⊎ HasNoRoom S.contents (text_frame text.now) self.old self.new) }
+        ensures gives_up { self.old.state ≡ Open → OnOk result (StaysUnlessFailed Open self.new.state ⊎ HasNoRoom S.contents S.writes (text_frame text.now) self.old self.new) }
         // After an error the state is unchanged, unless the stream failed.
         ensures err { OnErr result (StaysUnlessFailed self.old.state self.new.state) }
+        // The bound of what waits to be written is the same.
+        ensures bound { self.new.most_waiting ≡ self.old.most_waiting }
     {
         let frame = frame_len(text);
         self.make_room(frame);
@@ -72,9 +74,11 @@ impl<S: Stream> Peer<S> {
         // A short message waits, and the stream is not used.
         ensures waits { self.old.state ≡ Open → IsLittle (bytes_frame bytes.now) self.old → OnOk result ((self.new.state ≡ Open) × PutsFrame (bytes_frame bytes.now) self.old self.new) }
         // An open connection stays open, unless its stream failed or the message has no room.
-        ensures gives_up { self.old.state ≡ Open → OnOk result (StaysUnlessFailed Open self.new.state ⊎ HasNoRoom S.contents (bytes_frame bytes.now) self.old self.new) }
+        ensures gives_up { self.old.state ≡ Open → OnOk result (StaysUnlessFailed Open self.new.state ⊎ HasNoRoom S.contents S.writes (bytes_frame bytes.now) self.old self.new) }
         // After an error the state is unchanged, unless the stream failed.
         ensures err { OnErr result (StaysUnlessFailed self.old.state self.new.state) }
+        // The bound of what waits to be written is the same.
+        ensures bound { self.new.most_waiting ≡ self.old.most_waiting }
     {
         let frame = bytes_frame_len(bytes);
         self.make_room(frame);
@@ -106,9 +110,11 @@ impl<S: Stream> Peer<S> {
         // If the connection was open and still is, the bytes that came and the state of the protocol are unchanged.
         ensures came { self.old.state ≡ Open → self.new.state ≡ Open → KeepsWhatCame self.old self.new }
         // An open connection stays open, unless its stream failed or the bytes have no room.
-        ensures gives_up { self.old.state ≡ Open → OnOk result (StaysUnlessFailed Open self.new.state ⊎ HasNoRoom S.contents bytes.now self.old self.new) }
+        ensures gives_up { self.old.state ≡ Open → OnOk result (StaysUnlessFailed Open self.new.state ⊎ HasNoRoom S.contents S.writes bytes.now self.old self.new) }
         // After an error the state is unchanged, unless the stream failed.
         ensures err { OnErr result (StaysUnlessFailed self.old.state self.new.state) }
+        // The bound of what waits to be written is the same.
+        ensures bound { self.new.most_waiting ≡ self.old.most_waiting }
     {
         self.make_room(bytes.len());
         if !self.is_open() {
@@ -141,9 +147,11 @@ impl<S: Stream> Peer<S> {
         // If the connection was open and nothing more is read, the beginning of the frame follows everything that waited to be written.
         ensures sends { self.old.state ≡ Open → OnOk result (self.new.state ≡ Leaving → Sends S.contents (take most (text_frame text.now)) self.old self.new) }
         // An open connection reads nothing more, unless its stream failed or the beginning has no room.
-        ensures leaves { self.old.state ≡ Open → OnOk result (StaysUnlessFailed Leaving self.new.state ⊎ HasNoRoom S.contents (take most (text_frame text.now)) self.old self.new) }
+        ensures leaves { self.old.state ≡ Open → OnOk result (StaysUnlessFailed Leaving self.new.state ⊎ HasNoRoom S.contents S.writes (take most (text_frame text.now)) self.old self.new) }
         // After an error the state is unchanged, unless the stream failed.
         ensures err { OnErr result (StaysUnlessFailed self.old.state self.new.state) }
+        // The bound of what waits to be written is the same.
+        ensures bound { self.new.most_waiting ≡ self.old.most_waiting }
     {
         if !self.is_open() {
             return Ok(());
@@ -170,9 +178,11 @@ impl<S: Stream> Peer<S> {
         // If the connection was open and nothing more is read, the beginning of the frame follows everything that waited to be written.
         ensures sends { self.old.state ≡ Open → OnOk result (self.new.state ≡ Leaving → Sends S.contents (take most (bytes_frame bytes.now)) self.old self.new) }
         // An open connection reads nothing more, unless its stream failed or the beginning has no room.
-        ensures leaves { self.old.state ≡ Open → OnOk result (StaysUnlessFailed Leaving self.new.state ⊎ HasNoRoom S.contents (take most (bytes_frame bytes.now)) self.old self.new) }
+        ensures leaves { self.old.state ≡ Open → OnOk result (StaysUnlessFailed Leaving self.new.state ⊎ HasNoRoom S.contents S.writes (take most (bytes_frame bytes.now)) self.old self.new) }
         // After an error the state is unchanged, unless the stream failed.
         ensures err { OnErr result (StaysUnlessFailed self.old.state self.new.state) }
+        // The bound of what waits to be written is the same.
+        ensures bound { self.new.most_waiting ≡ self.old.most_waiting }
     {
         if !self.is_open() {
             return Ok(());
@@ -189,8 +199,9 @@ impl<S: Stream> Peer<S> {
         ensures known { SameKnown self.old.end self.new.end }
         ensures ends { OnOk result (self.new.state ≢ Open) }
         ensures sends { OnOk result (self.new.state ≡ Leaving → Sends S.contents bytes.now self.old self.new) }
-        ensures leaves { OnOk result (StaysUnlessFailed Leaving self.new.state ⊎ HasNoRoom S.contents bytes.now self.old self.new) }
+        ensures leaves { OnOk result (StaysUnlessFailed Leaving self.new.state ⊎ HasNoRoom S.contents S.writes bytes.now self.old self.new) }
         ensures err { OnErr result (StaysUnlessFailed self.old.state self.new.state) }
+        ensures bound { self.new.most_waiting ≡ self.old.most_waiting }
     {
         self.send_raw(bytes)?;
         if self.is_open() {
@@ -204,8 +215,10 @@ impl<S: Stream> Peer<S> {
         ensures else_same { self.old.state ≢ Open → self.new ≡ self.old }
         ensures room { length (unwritten self.old.outbox) + frame ≤ self.old.most_waiting → self.new ≡ self.old }
         ensures state { StaysUnlessFailed self.old.state self.new.state }
+        ensures tried { self.new.state ≡ Open → self.new.most_waiting < min (length (unwritten self.new.outbox) + frame) (2 ^ 64 - 1) → IsFlushed S.writes self.new }
         ensures flushes { HasFailed self.new.state ⊎ Flushes S.contents self.old self.new }
         ensures known { SameKnown self.old.end self.new.end }
+        ensures bound { self.new.most_waiting ≡ self.old.most_waiting }
     {
         if self.is_open() && !self.has_room(frame) {
             self.flush();
@@ -216,6 +229,7 @@ impl<S: Stream> Peer<S> {
     fn has_room(&self, frame: usize) -> bool
         ensures full { IsFalse result → self.now.most_waiting < length (unwritten self.now.outbox) + frame }
         ensures room { length (unwritten self.now.outbox) + frame ≤ self.now.most_waiting → IsTrue result }
+        ensures exact { IsFalse result ↔ (self.now.most_waiting < min (length (unwritten self.now.outbox) + frame) (2 ^ 64 - 1)) }
     {
         self.outbox.len().saturating_add(frame) <= self.most_waiting
     }
@@ -227,6 +241,7 @@ impl<S: Stream> Peer<S> {
         ensures came { KeepsWhatCame self.old self.new }
         ensures state { self.new.state ≡ self.old.state }
         ensures end { self.new.end ≡ self.old.end }
+        ensures bound { self.new.most_waiting ≡ self.old.most_waiting }
     {
         self.outbox.make_room(frame)?;
         write_text(&mut self.context, text, &mut self.outbox.second)
@@ -239,6 +254,7 @@ impl<S: Stream> Peer<S> {
         ensures came { KeepsWhatCame self.old self.new }
         ensures state { self.new.state ≡ self.old.state }
         ensures end { self.new.end ≡ self.old.end }
+        ensures bound { self.new.most_waiting ≡ self.old.most_waiting }
     {
         self.outbox.make_room(frame)?;
         write_bytes(&mut self.context, bytes, &mut self.outbox.second)
@@ -251,6 +267,7 @@ impl<S: Stream> Peer<S> {
         ensures came { KeepsWhatCame self.old self.new }
         ensures state { self.new.state ≡ self.old.state }
         ensures end { self.new.end ≡ self.old.end }
+        ensures bound { self.new.most_waiting ≡ self.old.most_waiting }
     {
         self.outbox.make_room(bytes.len())?;
         self.outbox.put(bytes)
@@ -262,6 +279,7 @@ impl<S: Stream> Peer<S> {
         ensures state { StaysUnlessFailed self.old.state self.new.state }
         ensures flushes { HasFailed self.new.state ⊎ Flushes S.contents self.old self.new }
         ensures known { SameKnown self.old.end self.new.end }
+        ensures bound { self.new.most_waiting ≡ self.old.most_waiting }
     {
         if self.outbox.len() >= MUCH {
             self.flush();
@@ -279,6 +297,8 @@ impl<S: Stream> Peer<S> {
         ensures flushes { HasFailed self.new.state ⊎ Flushes S.contents self.old self.new }
         // Afterwards the stream has failed, nothing waits any more, or the last call of the stream was a write that took nothing for now.
         ensures flushed { IsFlushed S.writes self.new }
+        // The bound of what waits to be written is the same.
+        ensures bound { self.new.most_waiting ≡ self.old.most_waiting }
     {
         if self.is_cut() {
             return;

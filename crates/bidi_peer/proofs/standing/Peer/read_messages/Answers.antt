@@ -1,4 +1,4 @@
-use Rattle.std.proofs.Common.{rules, ◌∙◌, ◌⊎◌, ◌≤◌, ◌+◌, ap, arith, inl, inr, subst, sym}
+use Rattle.std.proofs.Common.{rules, ◌∙◌, ◌⊎◌, ◌≤◌, ◌+◌, ap, arith, inl, inr, refl, subst, sym}
 use Rattle.websocket.specs.Connection.{can_read}
 use Rattle.bidi_peer.specs.Messages.{most_steps_of_take}
 use Rattle.bidi_peer.specs.Telling.{HasEnded, SameKnown}
@@ -53,6 +53,7 @@ pub loop-init : goal.loop-init
 loop-init g c = record {
   known = (λ k. k, λ k. k);
   shut = λ closed. closed;
+  bound = refl;
   goes_on = λ opened unknown. goes-on-first g.S.Read.remaining g.S.Write.contents c.args.self.now opened;
   closes_on = λ closing unknown. closes-on-first g.S.Read.remaining g.S.Write.contents c.args.self.now closing;
 }
@@ -72,6 +73,7 @@ loop-preserved g c =
           (c.loop.invariant.goes_on opened unknown) (search rules) (λ stands. c.in_ok-frame.ensures.shows (ap can_read (b.active stands)))
           (λ stands. c.in_ok-frame.ensures.takes (ap can_read (b.active stands))) c.next_frame.ensures.stream c.next_frame.ensures.bound (λ stands. c.in_ok-frame.ensures.stays stands)
           (λ is. c.in_ok-came.ensures.received is (λ known. unknown (c.loop.invariant.known.1 (sym c.next_frame.ensures.end ∙ known)))));
+      bound = c.receive.ensures.bound ∙ c.next_frame.ensures.bound ∙ c.loop.invariant.bound;
       closes_on = λ closing unknown.
           subst (λ o. ComesClosing g.S.Read.remaining g.S.Write.contents c.args.self.now (c.loop.counter + 1) c.receive.new.self o) c.in_default.is
           (next_closing g.S.Read.remaining g.S.Write.contents c.args.self.now c.loop.counter b c.next_frame.new.self c.receive.new.self c.in_ok-frame.frame c.in_ok-came.field-0

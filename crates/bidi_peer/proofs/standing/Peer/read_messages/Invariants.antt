@@ -12,5 +12,6 @@ invariant-loop g l = record {
   known : SameKnown l.initial.self.end l.self.end;
   shut : l.initial.self.state ≢ Open → l.self.state ≢ Open;
   goes_on : l.initial.self.state ≡ Open → l.initial.self.end ≢ Known → GoesOn g.S.Read.remaining g.S.Write.contents l.initial.self l.counter l.self;
+  bound : l.self.most_waiting ≡ l.initial.self.most_waiting;
   closes_on : l.initial.self.state ≡ Closing → l.initial.self.end ≢ Known → ClosesOn g.S.Read.remaining g.S.Write.contents l.initial.self l.counter l.self;
 }

@@ -22,6 +22,7 @@ loop-preserved g c =
           rw w.self-is (record {
             known = (λ k. heard.end ∙ k, λ k. sym heard.end ∙ k);
             reads = subst (λ s. HasEnded s → ⊥) (sym heard.state) c.requires.reads;
+            bound = heard.bound;
             receives = heard;
             waits = λ was. w.in_ok-came-2.ensures.unfinished (search rules);
           })
@@ -29,6 +30,7 @@ loop-preserved g c =
           rw w.self-is (record {
             known = (λ k. came.end ∙ k, λ k. sym came.end ∙ k);
             reads = subst (λ s. HasEnded s → ⊥) (sym came.state) c.requires.reads;
+            bound = came.bound;
             receives = came;
             waits = λ was.
                 let reads = (c.in_ok-came.ensures.receives (search rules)).reads in

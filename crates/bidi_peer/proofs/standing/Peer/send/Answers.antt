@@ -6,8 +6,9 @@ use Rattle.bidi_peer.proofs.standing.Peer.send.Goals as goal
 pub returns-then-not-has_room-clause-gives_up : goal.returns-then-not-has_room-clause-gives_up
 returns-then-not-has_room-clause-gives_up g c =
     λ was.
-    no_room g.S.Write.contents (text_frame c.args.text.now) c.args.self.now c.make_room.new.self c.give_up.new.self c.make_room.ensures.flushes
-    (c.is_open.ensures.0 c.if-not-is_open.false) (omega (arith, c.has_room.ensures.full c.if-not-has_room.true, c.frame_len-frame.ensures)) c.in_ok-give_up.ensures.ok
+    no_room g.S.Write.contents _ (text_frame c.args.text.now) c.args.self.now c.make_room.new.self c.give_up.new.self c.make_room.ensures.flushes
+    (c.is_open.ensures.0 c.if-not-is_open.false) (omega (arith, c.has_room.ensures.full c.if-not-has_room.true, c.frame_len-frame.ensures))
+    (c.make_room.ensures.tried (c.is_open.ensures.0 c.if-not-is_open.false) (c.has_room.ensures.exact.0 c.if-not-has_room.true)) c.in_ok-give_up.ensures.ok
     (c.in_ok-give_up.ensures.sends (c.is_open.ensures.0 c.if-not-is_open.false))
 
 pub returns-clause-waits : goal.returns-clause-waits
