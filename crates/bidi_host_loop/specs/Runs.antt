@@ -55,23 +55,32 @@ pub data Loses (conn : ℕ) : ScriptedEnd → ScriptedEnd → List Deed → Type
 abbrev pub TakesPageLine : List ℕ → ScriptedEnd → ScriptedEnd → List Deed → Type 0
 TakesPageLine text old new more = (l : Line) × (is_said_by_pages l ≡ true) × (text ≡ script_line_of l) × Takes l old new more
 
--- Lines of a page are taken, one after another.
-pub data Plays : ScriptedEnd → ScriptedEnd → List Deed → Type 0 where
-  no_lines : (end : ScriptedEnd) → Plays end end []
-  one_more : (text : List ℕ) (old mid new : ScriptedEnd) (done more : List Deed) → Plays old mid done → TakesPageLine text mid new more
-      → Plays old new (done ++ more)
+-- These lines of a page are taken, one after another.
+pub data Plays : List (List ℕ) → ScriptedEnd → ScriptedEnd → List Deed → Type 0 where
+  no_lines : (end : ScriptedEnd) → Plays [] end end []
+  one_more : (text : List ℕ) (lines : List (List ℕ)) (old mid new : ScriptedEnd) (done more : List Deed) → TakesPageLine text old mid done
+      → Plays lines mid new more → Plays (text ∷ lines) old new (done ++ more)
 
--- A page, or standard input, says a text.
-pub data Says (text : List ℕ) : ScriptedEnd → ScriptedEnd → List Deed → Type 0 where
+-- the line by which a lenient host makes all names known
+abbrev pub names_first : Bool → List (List ℕ)
+names_first true = codes "names *" ∷ []
+names_first false = []
+
+-- the lines that a host, lenient or not, plays for each new browser: that line, and then those of the page
+abbrev pub opening_lines : Bool → List (List ℕ) → List (List ℕ)
+opening_lines is_lenient page = names_first is_lenient ++ page
+
+-- A page, or standard input, says a text to a host that plays these lines for each new browser.
+pub data Says (opening : List (List ℕ)) (text : List ℕ) : ScriptedEnd → ScriptedEnd → List Deed → Type 0 where
   -- a line of a page is taken
-  a_line : (old new : ScriptedEnd) (more : List Deed) → TakesPageLine text old new more → Says text old new more
+  a_line : (old new : ScriptedEnd) (more : List Deed) → TakesPageLine text old new more → Says opening text old new more
   -- any other text does nothing
-  no_line : (old new : ScriptedEnd) → SaysNoPageLine text → Stays old new → Says text old new []
+  no_line : (old new : ScriptedEnd) → SaysNoPageLine text → Stays old new → Says opening text old new []
   -- `end` ends the host
-  the_end : (end : ScriptedEnd) → text ≡ codes "end" → Says text end end []
-  -- `reset` makes a new browser, continues the record in the next file, and plays the page lines
-  a_reset : (old fresh new : ScriptedEnd) (more : List Deed) → text ≡ codes "reset" → IsNew fresh → Plays fresh new more
-      → Says text old new (deed.Restarted ∷ more)
+  the_end : (end : ScriptedEnd) → text ≡ codes "end" → Says opening text end end []
+  -- `reset` makes a new browser, continues the record in the next file, and plays the lines for it
+  a_reset : (old fresh new : ScriptedEnd) (more : List Deed) → text ≡ codes "reset" → IsNew fresh → Plays opening fresh new more
+      → Says opening text old new (deed.Restarted ∷ more)
 
 -- A handshake is answered as the remote end answers the connection with this number.
 pub data Admits (place conn : ℕ) : ScriptedEnd → ScriptedEnd → List Deed → Type 0 where
@@ -113,37 +122,38 @@ pub data Calls (is_lenient : Bool) : ScriptedEnd → ScriptedEnd → List Deed �
   is_made : (conn : ℕ) (resource : List ℕ) (old mid new : ScriptedEnd) (more rest : List Deed) → Takes (Plain (Open conn resource)) old mid more
       → Commands is_lenient conn mid new rest → Calls is_lenient old new (more ++ rest)
 
--- A host, lenient or not, whose end was the first, with some deeds done, comes to another end, with more deeds done.
-pub data Runs (is_lenient : Bool) (first : ScriptedEnd) (before : List Deed) : ScriptedEnd → List Deed → Type 0 where
+-- A host, lenient or not, that plays these lines for each new browser, whose end was the first, with some deeds done, comes to another end, with more
+-- deeds done.
+pub data Runs (is_lenient : Bool) (opening : List (List ℕ)) (first : ScriptedEnd) (before : List Deed) : ScriptedEnd → List Deed → Type 0 where
   -- nothing has happened
-  stays : Runs is_lenient first before first before
-  -- page lines are played for a new browser
-  plays : (old new : ScriptedEnd) (done more : List Deed) → Runs is_lenient first before old done → Plays old new more
-      → Runs is_lenient first before new (done ++ more)
+  stays : Runs is_lenient opening first before first before
+  -- the lines are played for the first browser
+  plays : (old new : ScriptedEnd) (done more : List Deed) → Runs is_lenient opening first before old done → Plays opening old new more
+      → Runs is_lenient opening first before new (done ++ more)
   -- a text of a client comes, and is taken
-  hears : (old new : ScriptedEnd) (done more : List Deed) (conn : ℕ) (text : List ℕ) → Runs is_lenient first before old done
-      → Hears is_lenient conn text old new more → Runs is_lenient first before new (done ++ deed.Heard conn text ∷ more)
+  hears : (old new : ScriptedEnd) (done more : List Deed) (conn : ℕ) (text : List ℕ) → Runs is_lenient opening first before old done
+      → Hears is_lenient conn text old new more → Runs is_lenient opening first before new (done ++ deed.Heard conn text ∷ more)
   -- so is a binary message
-  hears_bytes : (old new : ScriptedEnd) (done more : List Deed) (conn : ℕ) → Runs is_lenient first before old done
-      → Takes (Plain (NotText conn)) old new more → Runs is_lenient first before new (done ++ deed.HeardBytes conn ∷ more)
+  hears_bytes : (old new : ScriptedEnd) (done more : List Deed) (conn : ℕ) → Runs is_lenient opening first before old done
+      → Takes (Plain (NotText conn)) old new more → Runs is_lenient opening first before new (done ++ deed.HeardBytes conn ∷ more)
   -- a connection ends
-  loses : (old new : ScriptedEnd) (done more : List Deed) (conn : ℕ) → Runs is_lenient first before old done
-      → Loses conn old new more → Runs is_lenient first before new (done ++ deed.Gone conn ∷ more)
+  loses : (old new : ScriptedEnd) (done more : List Deed) (conn : ℕ) → Runs is_lenient opening first before old done
+      → Loses conn old new more → Runs is_lenient opening first before new (done ++ deed.Gone conn ∷ more)
   -- a page says a text, and is answered after all that this brings about
-  says : (old new : ScriptedEnd) (done more : List Deed) (place : ℕ) (text answer : List ℕ) → Runs is_lenient first before old done
-      → Says text old new more → Runs is_lenient first before new (done ++ deed.Said place text ∷ (more ++ deed.Answered place answer ∷ []))
+  says : (old new : ScriptedEnd) (done more : List Deed) (place : ℕ) (text answer : List ℕ) → Runs is_lenient opening first before old done
+      → Says opening text old new more → Runs is_lenient opening first before new (done ++ deed.Said place text ∷ (more ++ deed.Answered place answer ∷ []))
   -- its binary messages are answered, and do nothing
-  says_bytes : (end : ScriptedEnd) (done : List Deed) (place : ℕ) (answer : List ℕ) → Runs is_lenient first before end done
-      → Runs is_lenient first before end (done ++ deed.SaidBytes place ∷ deed.Answered place answer ∷ [])
+  says_bytes : (end : ScriptedEnd) (done : List Deed) (place : ℕ) (answer : List ℕ) → Runs is_lenient opening first before end done
+      → Runs is_lenient opening first before end (done ++ deed.SaidBytes place ∷ deed.Answered place answer ∷ [])
   -- a line of standard input is answered like the text of a page
-  enters : (old new : ScriptedEnd) (done more : List Deed) (text answer : List ℕ) → Runs is_lenient first before old done
-      → Says text old new more → Runs is_lenient first before new (done ++ deed.Entered text ∷ (more ++ deed.AnsweredInput answer ∷ []))
+  enters : (old new : ScriptedEnd) (done more : List Deed) (text answer : List ℕ) → Runs is_lenient opening first before old done
+      → Says opening text old new more → Runs is_lenient opening first before new (done ++ deed.Entered text ∷ (more ++ deed.AnsweredInput answer ∷ []))
   -- bytes that are no line are answered, and do nothing
-  enters_bytes : (end : ScriptedEnd) (done : List Deed) (answer : List ℕ) → Runs is_lenient first before end done
-      → Runs is_lenient first before end (done ++ deed.EnteredBytes ∷ deed.AnsweredInput answer ∷ [])
+  enters_bytes : (end : ScriptedEnd) (done : List Deed) (answer : List ℕ) → Runs is_lenient opening first before end done
+      → Runs is_lenient opening first before end (done ++ deed.EnteredBytes ∷ deed.AnsweredInput answer ∷ [])
   -- a handshake comes
-  asks : (old new : ScriptedEnd) (done more : List Deed) (place : ℕ) (resource : List ℕ) → Runs is_lenient first before old done
-      → Asks place resource old new more → Runs is_lenient first before new (done ++ deed.Asked place resource ∷ more)
+  asks : (old new : ScriptedEnd) (done more : List Deed) (place : ℕ) (resource : List ℕ) → Runs is_lenient opening first before old done
+      → Asks place resource old new more → Runs is_lenient opening first before new (done ++ deed.Asked place resource ∷ more)
   -- a call comes, and is replied to after all that it brings about
-  calls : (old new : ScriptedEnd) (done more : List Deed) (place : ℕ) → Runs is_lenient first before old done
-      → Calls is_lenient old new more → Runs is_lenient first before new (done ++ deed.Called place ∷ (more ++ deed.Replied place ∷ []))
+  calls : (old new : ScriptedEnd) (done more : List Deed) (place : ℕ) → Runs is_lenient opening first before old done
+      → Calls is_lenient old new more → Runs is_lenient opening first before new (done ++ deed.Called place ∷ (more ++ deed.Replied place ∷ []))

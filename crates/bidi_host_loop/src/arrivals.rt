@@ -69,12 +69,12 @@ impl Hosted {
         if self.lifetime.is_ending() {
             return Ok(());
         }
-        let Some(place) = self.edge.peers.place() else {
+        let Some(place) = self.edge.place() else {
             return Ok(());
         };
         if let Some(stream) = door.watch(stream, place) {
             let peer = Peer::with_bound(self.alloc, stream, self.manners.most_waiting);
-            self.edge.peers.put(place, peer, deadline)?;
+            self.edge.put(place, peer, deadline)?;
         }
         Ok(())
     }

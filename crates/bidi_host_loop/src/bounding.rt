@@ -21,7 +21,9 @@ impl Peers {
     /// they hold no more.
     ///
     /// What is held is counted only if what was added since the last count could be too much.
-    pub(crate) fn hold_at_most(&mut self, most: usize) -> Result<(), AllocError> {
+    pub(crate) fn hold_at_most(&mut self, most: usize) -> Result<(), AllocError>
+        ensures keeps { self.new.routes ≡ self.old.routes }
+    {
         if self.held <= most {
             return Ok(());
         }

@@ -198,9 +198,9 @@ impl Hosted {
     ) -> Result<Vec<String>, HostingFault>
         ensures { OnOk result (By (Commands self.old.manners.is_lenient conn.value) self.old self.new) }
     {
-        self.edge.peers.keep_texts(self.alloc, conn);
+        self.edge.keep_texts(self.alloc, conn);
         self.hears_eased(world, conn, command)?;
-        let texts = self.edge.peers.kept_texts(self.alloc);
+        let texts = self.edge.kept_texts(self.alloc);
         self.registry.sessions.forget(conn);
         self.drops(world, conn)?;
         Ok(texts)

@@ -72,7 +72,7 @@ impl Hosted {
     pub(crate) fn bound_what_is_held(&mut self) -> Result<(), HostingFault>
         ensures { OnOk result (Rests self.old self.new) }
     {
-        Ok(self.edge.peers.hold_at_most(self.manners.most_held)?)
+        Ok(self.edge.hold_at_most(self.manners.most_held)?)
     }
 
     // Meets one thing that came in. Returns whether more is taken in this turn.
@@ -139,7 +139,7 @@ impl Hosted {
         ensures { Meets (coming place role came.Ended) self.old self.new result }
     {
         let deadline = seconds_from_now(world, PATIENCE)?;
-        self.edge.peers.leave(place, role, deadline);
+        self.edge.leave(place, role, deadline);
         match role {
             Role::Client(conn) => self.client_ends(world, conn),
             Role::Page | Role::Arriving | Role::Leaving => Ok(()),

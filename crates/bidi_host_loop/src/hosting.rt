@@ -1,6 +1,6 @@
 //! Many connections of one remote end, served in turns.
-ghost use Rattle.std.specs.Prelude.{◌≡◌, [], IfOk, OnOk, true};
-ghost use Rattle.bidi_host_loop.specs.Runs.{IsNew, Plays};
+ghost use Rattle.std.specs.Prelude.{◌≡◌, ◌≢◌, [], IfOk, None, OnOk, get_or, true};
+ghost use Rattle.bidi_host_loop.specs.Runs.{IsNew, Plays, TakesPageLine, names_first};
 
 use crate::clock::{shorter, time};
 use crate::console::Console;
@@ -53,7 +53,7 @@ impl Drop for Hosted {
 }
 
 impl Hosted {
-    ghost use Rattle.bidi_host_loop.specs.Goes.{By, GoesOn, Rests};
+    ghost use Rattle.bidi_host_loop.specs.Goes.{By, GoesOn, Rests, lines_of, opening_of};
 
     /// Makes a host without connections. Each new browser plays these page lines first; [`Hosted::begin`]
     /// plays them for the first browser.
@@ -62,7 +62,9 @@ impl Hosted {
     /// `NoMemory`: an allocation failed.
     pub fn new(alloc: Global, manners: Manners, page: Vec<String>) -> Result<Hosted, HostingFault>
         // The remote end is new, and nothing was done.
-        ensures { IfOk result (λ hosted. IsNew hosted.host.end × (hosted.edge.account.deeds ≡ [])) }
+        ensures new { IfOk result (λ hosted. IsNew hosted.host.end × (hosted.edge.account.deeds ≡ [])) }
+        // The host has these manners, and these lines of the page.
+        ensures given { IfOk result (λ hosted. (hosted.manners ≡ manners) × (hosted.page ≡ page)) }
     {
         Ok(Hosted {
             alloc,
@@ -84,7 +86,9 @@ impl Hosted {
     /// - `Write`, `NoMemory`, `WornOut`: as [`Hosted::serve`].
     pub fn begin<W: Surroundings>(&mut self, world: &mut W) -> Result<(), HostingFault>
         // After an Ok, the host has gone on by whole steps: each input is recorded, and then all that it brings about is done, in order.
-        ensures { GoesOn self.old self.new result }
+        ensures goes_on { GoesOn self.old self.new result }
+        // After an Ok, each line was taken: `names *` if the host is lenient, and then the lines of the page, in order.
+        ensures plays { OnOk result (By (Plays (opening_of self.old)) self.old self.new) }
     {
         self.play_all(world)?;
         Ok(())
@@ -92,7 +96,7 @@ impl Hosted {
 
     // Plays the page lines, after `names *` if the host is lenient.
     pub(crate) fn play_all<W: Surroundings>(&mut self, world: &mut W) -> Result<(), HostingFault>
-        ensures { OnOk result (By Plays self.old self.new) }
+        ensures { OnOk result (By (Plays (opening_of self.old)) self.old self.new) }
     {
         self.hold_names(world)?;
         self.play_page(world)?;
@@ -101,7 +105,7 @@ impl Hosted {
 
     // Plays the page lines.
     fn play_page<W: Surroundings>(&mut self, world: &mut W) -> Result<(), HostingFault>
-        ensures { OnOk result (By Plays self.old self.new) }
+        ensures { OnOk result (By (Plays (lines_of self.old)) self.old self.new) }
     {
         let mut number: u64 = 0;
         for place in 0..self.page.len() {
@@ -115,7 +119,7 @@ impl Hosted {
 
     // Makes all names known if the host is lenient, so that sessions can subscribe to those that the profile does not have.
     fn hold_names<W: Surroundings>(&mut self, world: &mut W) -> Result<(), HostingFault>
-        ensures { OnOk result (By Plays self.old self.new) }
+        ensures { OnOk result (By (Plays (names_first self.old.manners.is_lenient)) self.old self.new) }
     {
         if !self.manners.is_lenient {
             return Ok(());
@@ -129,12 +133,12 @@ impl Hosted {
         }
     }
 
-    // Plays the page line at a place. Returns whether it is one.
+    // Plays the page line at a place. Returns whether there is one.
     fn play<W: Surroundings>(&mut self, world: &mut W, place: usize) -> Result<bool, HostingFault>
-        ensures { IfOk result (λ is_line. is_line ≡ true → By Plays self.old self.new) }
+        ensures { IfOk result (λ is_line. is_line ≡ true → By (TakesPageLine (get_or (lines_of self.old) place [])) self.old self.new) }
     {
         let Some(line) = self.page.get(place) else {
-            return Ok(true);
+            return Ok(false);
         };
         match self.host.page_line(line.as_str())? {
             Some(taken) => {
@@ -158,14 +162,17 @@ impl Hosted {
     /// - `Answer`: an answer cannot be written to standard output.
     /// - `Write`: the record cannot be written.
     /// - `NoMemory`: an allocation failed.
-    /// - `WornOut`: the remote end takes no more steps.
+    /// - `WornOut`: the remote end takes no more steps, or the host no more turns.
+    #[tactic(auto, using(crate::proofs::RunLemmas::rests_run))]
     pub fn serve<W: Surroundings>(
         &mut self,
         door: &mut Door,
         world: &mut W,
     ) -> Result<(), HostingFault>
         // After an Ok, the host has gone on by whole steps: each input is recorded, and then all that it brings about is done, in order.
-        ensures { GoesOn self.old self.new result }
+        ensures goes_on { GoesOn self.old self.new result }
+        // It returns an Ok only if the host was told to end.
+        ensures ends { OnOk result (self.new.lifetime.end ≢ None) }
     {
         self.listen(door, world)?;
         for _ in 0..u64::MAX {
@@ -173,7 +180,7 @@ impl Hosted {
                 return Ok(());
             }
         }
-        Ok(())
+        Err(HostingFault::WornOut)
     }
 
     /// Starts to wait for connections and for standard input, and reports where. [`Hosted::serve`] does so
@@ -187,8 +194,8 @@ impl Hosted {
         door: &mut Door,
         world: &mut W,
     ) -> Result<(), HostingFault>
-        // After an Ok, the host has gone on by whole steps: each input is recorded, and then all that it brings about is done, in order.
-        ensures { GoesOn self.old self.new result }
+        // After an Ok, nothing has come and nothing was done, and the remote end is the same.
+        ensures { OnOk result (Rests self.old self.new) }
     {
         let port = door.open()?;
         if self.manners.reads_input {
@@ -197,6 +204,20 @@ impl Hosted {
         let line = format!(in self.alloc; "WebDriver BiDi listening on ws://127.0.0.1:{port}")?;
         world.note(line.as_str());
         Ok(())
+    }
+
+    // Drops the connections whose deadline has passed. Returns the next deadline.
+    fn drop_late(&mut self, now: Instant) -> Option<Instant>
+        ensures { Rests self.old self.new }
+    {
+        self.edge.expire(now)
+    }
+
+    // Writes what is queued for all connections.
+    fn flush_all(&mut self)
+        ensures { Rests self.old self.new }
+    {
+        self.edge.flush();
     }
 
     /// Takes one turn: waits until something can be done, at most for so long, and does it. Returns whether
@@ -211,10 +232,12 @@ impl Hosted {
         most: Option<Duration>,
     ) -> Result<bool, HostingFault>
         // After an Ok, the host has gone on by whole steps: each input is recorded, and then all that it brings about is done, in order.
-        ensures { GoesOn self.old self.new result }
+        ensures goes_on { GoesOn self.old self.new result }
+        // It returns true only if the host was told to end.
+        ensures ends { IfOk result (λ ended. ended ≡ true → self.new.lifetime.end ≢ None) }
     {
         let now = time(world)?;
-        let next = self.edge.peers.expire(now);
+        let next = self.drop_late(now);
         if self.has_ended(now) {
             return Ok(true);
         }
@@ -222,7 +245,7 @@ impl Hosted {
         self.read_input(door, world)?;
         self.serve_ready(world)?;
         self.end_after_last(world)?;
-        self.edge.peers.flush();
+        self.flush_all();
         Ok(false)
     }
 
@@ -239,13 +262,15 @@ impl Hosted {
         self.accept_all(door, world)?;
         self.console.is_ready |= door.has_input();
         for event in door.events().iter() {
-            self.edge.peers.wake(event.token().0);
+            self.edge.wake(event.token().0);
         }
         Ok(())
     }
 
     // Whether the host was told to end, and its connections have ended or have had their time.
-    fn has_ended(&self, now: Instant) -> bool {
+    fn has_ended(&self, now: Instant) -> bool
+        ensures { result ≡ true → self.now.lifetime.end ≢ None }
+    {
         match self.lifetime.end() {
             Some(end) => end <= now || self.edge.peers.is_empty(),
             None => false,

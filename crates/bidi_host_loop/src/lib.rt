@@ -25,8 +25,9 @@
 //!
 //! # What is proved
 //! A host goes on by whole steps: for each thing that comes, a line is recorded, then what it brings about is done in
-//! order, and a page is answered last. Contracts read this off an account of what came and of what was done, which
-//! only `edge.rt` writes. Turns, deadlines, limits and what is answered to handshakes and calls are tested.
+//! order, and a page is answered last. Each new browser takes the lines of the page, all and in order. Contracts read
+//! this off an account of what came and of what was done, which only `edge.rt` writes. Turns, deadlines, limits and what
+//! is answered to handshakes and calls are tested.
 #![tactic(auto)]
 
 mod account;
@@ -35,6 +36,7 @@ mod bounding;
 mod calls;
 mod clients;
 mod clock;
+mod closing;
 mod console;
 mod door;
 mod edge;
@@ -50,6 +52,7 @@ mod pages;
 mod peers;
 mod refusing;
 mod registry;
+mod sending;
 mod sessions;
 mod slot;
 mod surroundings;

@@ -1,4 +1,6 @@
 //! When a host ends.
+ghost use Rattle.std.specs.Prelude.{◌≡◌};
+
 use std::time::Instant;
 
 /// When a host ends.
@@ -25,7 +27,9 @@ impl Lifetime {
     }
 
     /// When the host ends, whatever its connections do; `None` while it serves.
-    pub(crate) fn end(&self) -> Option<Instant> {
+    pub(crate) fn end(&self) -> Option<Instant>
+        ensures { result ≡ self.now.end }
+    {
         self.end
     }
 

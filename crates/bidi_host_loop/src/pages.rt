@@ -52,7 +52,7 @@ impl Answer {
 }
 
 impl Hosted {
-    ghost use Rattle.bidi_host_loop.specs.Goes.{By, Does, GoesOn, Meets, Rests};
+    ghost use Rattle.bidi_host_loop.specs.Goes.{By, Does, GoesOn, Meets, Rests, opening_of};
 
     // Takes lines from standard input, if there are any.
     pub(crate) fn read_input<W: Surroundings>(
@@ -147,7 +147,7 @@ impl Hosted {
     ) -> Result<(), HostingFault>
         ensures { OnOk result (Does (AnsweredInput answer.now ∷ []) self.old self.new) }
     {
-        self.edge.peers.flush();
+        self.edge.flush();
         self.edge.answer_input(world, answer)?;
         Ok(())
     }
@@ -188,7 +188,7 @@ impl Hosted {
     ) -> Result<(), HostingFault>
         ensures { OnOk result (Does (Answered place answer.now ∷ []) self.old self.new) }
     {
-        self.edge.peers.flush();
+        self.edge.flush();
         self.edge.answer(place, answer)?;
         self.close_pages_at_end(world)?;
         Ok(())
@@ -213,7 +213,7 @@ impl Hosted {
         world: &mut W,
         text: &str,
     ) -> Result<Answer, HostingFault>
-        ensures { OnOk result (By (Says text.now) self.old self.new) }
+        ensures { OnOk result (By (Says (opening_of self.old) text.now) self.old self.new) }
     {
         if text == "reset" {
             self.reset(world)?;
@@ -232,7 +232,7 @@ impl Hosted {
         world: &mut W,
         text: &str,
     ) -> Result<Answer, HostingFault>
-        ensures { OnOk result (By (Says text.now) self.old self.new) }
+        ensures { OnOk result (By (Says (opening_of self.old) text.now) self.old self.new) }
     {
         match self.says_line(world, text)? {
             Some(answer) => Ok(answer),
@@ -258,7 +258,7 @@ impl Hosted {
     // Makes a new browser: closes each connection of the remote end, continues the record in the
     // next file, and plays the page lines again.
     fn reset<W: Surroundings>(&mut self, world: &mut W) -> Result<(), HostingFault>
-        ensures { OnOk result (By (Says (codes "reset")) self.old self.new) }
+        ensures { OnOk result (By (Says (opening_of self.old) (codes "reset")) self.old self.new) }
     {
         self.close_clients(world)?;
         self.host.reset()?;
@@ -272,7 +272,7 @@ impl Hosted {
         ensures { OnOk result (Rests self.old self.new) }
     {
         let deadline = seconds_from_now(world, PATIENCE)?;
-        self.edge.peers.close_all(false, deadline)?;
+        self.edge.close_all(false, deadline)?;
         self.registry.clear();
         self.lifetime.had_session = false;
         Ok(())
@@ -284,7 +284,7 @@ impl Hosted {
     {
         let end = seconds_from_now(world, LINGER)?;
         self.lifetime.end_at(end);
-        self.edge.peers.close_all(false, end)?;
+        self.edge.close_all(false, end)?;
         Ok(())
     }
 
@@ -297,7 +297,7 @@ impl Hosted {
     {
         if self.lifetime.is_ending() {
             let end = seconds_from_now(world, LINGER)?;
-            self.edge.peers.close_all(true, end)?;
+            self.edge.close_all(true, end)?;
         }
         Ok(())
     }

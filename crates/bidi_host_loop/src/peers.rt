@@ -1,13 +1,11 @@
 //! The connections that are held, each at a place of its own.
-ghost use Rattle.std.specs.Prelude.{◌≡◌, OnOk, Some};
-ghost use Rattle.bidi_host_loop.specs.Clients.{HandsIn};
+ghost use Rattle.std.specs.Prelude.{◌≡◌, ◌++◌, ◌∷◌, [], List, true, OnOk, Some};
 
 use crate::bounding::held_at;
-use crate::clock::earlier;
 use crate::own::Own;
-use crate::slot::{Role, Slot, deadline_of, flushed_is_over, is_page, is_past};
+use crate::slot::{Role, Slot, deadline_of, is_page};
 use bidi_classic::Reply;
-use bidi_peer::{Came, ClosingCause, Peer, RequestRefusal};
+use bidi_peer::{Came, Peer, RequestRefusal};
 use bidi_tree::JsUint;
 use mio::net::TcpStream;
 use std::alloc::{AllocError, Global};
@@ -15,7 +13,7 @@ use std::time::Instant;
 
 /// The place of the connection with a number.
 #[derive(Clone, Copy)]
-struct Route {
+pub(crate) struct Route {
     conn: u64,
     place: usize,
 }
@@ -25,20 +23,23 @@ struct Route {
 pub(crate) struct Peers {
     pub(crate) slots: Vec<Option<Slot>>,
     // Where the connections of the remote end are, the newest first.
-    routes: Vec<Route>,
+    pub(crate) routes: Vec<Route>,
     // The most places.
     most: usize,
     // The texts of the host's own connection, while it has one.
-    own: Option<Own>,
+    pub(crate) own: Option<Own>,
     /// All connections together hold no more bytes than this.
     pub(crate) held: usize,
 }
 
 impl Peers {
-    ghost use Rattle.bidi_host_loop.specs.Clients.{Hands, HandsAt, place_of};
+    ghost use Rattle.bidi_host_loop.specs.Clients.{are_routed, left_without, place_of, with_route};
+    ghost use Rattle.bidi_host_loop.specs.Deeds.{Admitted, Deed};
 
     /// Makes an empty collection with at most so many places. Takes no memory.
-    pub(crate) fn new(alloc: Global, most: usize) -> Peers {
+    pub(crate) fn new(alloc: Global, most: usize) -> Peers
+        ensures { result.routes.items ≡ [] }
+    {
         Peers {
             slots: Vec::new(alloc),
             routes: Vec::new(alloc),
@@ -70,7 +71,9 @@ impl Peers {
 
     /// Finds a free place. If all are taken, drops the connection whose deadline comes first; `None` if none
     /// has a deadline.
-    pub(crate) fn place(&mut self) -> Option<usize> {
+    pub(crate) fn place(&mut self) -> Option<usize>
+        ensures keeps { self.new.routes ≡ self.old.routes }
+    {
         if let Some(place) = self.slots.iter().position(|slot| slot.is_none()) {
             return Some(place);
         }
@@ -90,7 +93,9 @@ impl Peers {
         place: usize,
         peer: Peer<TcpStream>,
         deadline: Option<Instant>,
-    ) -> Result<(), AllocError> {
+    ) -> Result<(), AllocError>
+        ensures keeps { self.new.routes ≡ self.old.routes }
+    {
         let slot = Some(Slot {
             peer,
             role: Role::Arriving,
@@ -109,10 +114,14 @@ impl Peers {
     }
 
     /// The stream at a place can be read or written again.
-    pub(crate) fn wake(&mut self, place: usize) {
-        if let Some(Some(slot)) = self.slots.get_mut(place) {
-            slot.is_ready = true;
-            slot.is_due = true;
+    pub(crate) fn wake(&mut self, place: usize)
+        ensures keeps { self.new.routes ≡ self.old.routes }
+    {
+        if let Some(there) = self.slots.get_mut(place) {
+            if let Some(slot) = there {
+                slot.is_ready = true;
+                slot.is_due = true;
+            }
         }
     }
 
@@ -133,7 +142,9 @@ impl Peers {
     }
 
     /// Takes what came in at a place, with the role of the connection.
-    pub(crate) fn take(&mut self, place: usize) -> Result<(Role, Came), AllocError> {
+    pub(crate) fn take(&mut self, place: usize) -> Result<(Role, Came), AllocError>
+        ensures keeps { self.new.routes ≡ self.old.routes }
+    {
         let before = held_at(&self.slots, place);
         let taken = match self.slots.get_mut(place) {
             Some(Some(slot)) => slot.take()?,
@@ -146,19 +157,26 @@ impl Peers {
 
     /// Answers a handshake: the connection at a place is open, and it is that of the remote end with this number.
     pub(crate) fn open_client(&mut self, place: usize, conn: JsUint) -> Result<(), AllocError>
-        ensures { OnOk result (place_of conn.value self.new ≡ Some place) }
+        ensures routes { OnOk result (place_of conn.value self.new ≡ Some place) }
+        ensures adds { OnOk result (self.new.routes.items ≡ with_route place conn.value self.old.routes.items) }
+        // If every number was at the place by which it was admitted last, so it is once this number is admitted.
+        ensures admits { (deeds : List Deed) → are_routed self.old.routes.items deeds ≡ true
+            → are_routed self.new.routes.items (deeds ++ Admitted place conn.value ∷ []) ≡ true }
     {
         let route = Route {
             conn: conn.value,
             place,
         };
+        self.forget(conn);
         self.routes.insert(0, route)?;
         self.open_at(place, Role::Client(conn))?;
         Ok(())
     }
 
     /// Answers a handshake: the connection at a place is open, and it is that of a page.
-    pub(crate) fn open_page(&mut self, place: usize) -> Result<(), AllocError> {
+    pub(crate) fn open_page(&mut self, place: usize) -> Result<(), AllocError>
+        ensures keeps { self.new.routes ≡ self.old.routes }
+    {
         self.open_at(place, Role::Page)
     }
 
@@ -176,11 +194,9 @@ impl Peers {
     }
 
     /// Refuses a handshake.
-    pub(crate) fn refuse(
-        &mut self,
-        place: usize,
-        refusal: RequestRefusal,
-    ) -> Result<(), AllocError> {
+    pub(crate) fn refuse(&mut self, place: usize, refusal: RequestRefusal) -> Result<(), AllocError>
+        ensures keeps { self.new.routes ≡ self.old.routes }
+    {
         if let Some(Some(slot)) = self.slots.get_mut(place) {
             slot.role = Role::Leaving;
             slot.is_read_out = true;
@@ -191,7 +207,9 @@ impl Peers {
     }
 
     /// Replies to a call.
-    pub(crate) fn reply(&mut self, place: usize, reply: &Reply) -> Result<(), AllocError> {
+    pub(crate) fn reply(&mut self, place: usize, reply: &Reply) -> Result<(), AllocError>
+        ensures keeps { self.new.routes ≡ self.old.routes }
+    {
         self.hold_payload(reply.json.len());
         if let Some(Some(slot)) = self.slots.get_mut(place) {
             slot.role = Role::Leaving;
@@ -210,256 +228,32 @@ impl Peers {
         }
     }
 
-    /// Keeps the texts of the connection with this number, which is the host's own, until [`Peers::kept_texts`].
-    pub(crate) fn keep_texts(&mut self, alloc: Global, conn: JsUint) {
-        self.own = Some(Own::new(alloc, conn));
-    }
-
-    /// The texts that were kept.
-    pub(crate) fn kept_texts(&mut self, alloc: Global) -> Vec<String> {
-        match self.own.take() {
-            Some(own) => own.texts,
-            None => Vec::new(alloc),
-        }
-    }
-
-    /// Queues a text for the connection at a place.
-    pub(crate) fn send_to(&mut self, place: usize, text: &str) -> Result<(), AllocError>
-        ensures { OnOk result (HandsAt place text.now self.old self.new) }
-    {
-        self.hold_payload(text.len());
-        match self.slots.get_mut(place) {
-            Some(there) => {
-                send_in(there, text)?;
-                Ok(())
-            }
-            None => Ok(()),
-        }
-    }
-
-    /// Queues a text for the connection with a number, if it is held, or keeps it if the connection is the host's own.
-    pub(crate) fn send(&mut self, conn: JsUint, text: &str) -> Result<(), AllocError>
-        ensures { OnOk result (Hands conn.value text.now self.old self.new) }
-    {
-        let Some(place) = self.place_of(conn) else {
-            self.keep_own(conn, text)?;
-            return Ok(());
-        };
-        self.send_to(place, text)?;
-        Ok(())
-    }
-
-    // Keeps a text for the host's own connection, if it is for that.
-    fn keep_own(&mut self, conn: JsUint, text: &str) -> Result<(), AllocError> {
-        match &mut self.own {
-            Some(own) => own.keep(conn, text),
-            None => Ok(()),
-        }
-    }
-
-    /// Queues a binary message for the connection with a number, if it is held.
-    pub(crate) fn send_bytes(&mut self, conn: JsUint, bytes: &[u8]) -> Result<(), AllocError> {
-        let Some(place) = self.place_of(conn) else {
-            return Ok(());
-        };
-        self.hold_payload(bytes.len());
-        match self.slots.get_mut(place) {
-            Some(Some(slot)) => slot.send_bytes(bytes),
-            _ => Ok(()),
-        }
-    }
-
-    /// Queues bytes without a frame for the connection with a number, if it is held.
-    pub(crate) fn send_raw(&mut self, conn: JsUint, bytes: &[u8]) -> Result<(), AllocError> {
-        let Some(place) = self.place_of(conn) else {
-            return Ok(());
-        };
-        self.hold_payload(bytes.len());
-        match self.slots.get_mut(place) {
-            Some(Some(slot)) => slot.send_raw(bytes),
-            _ => Ok(()),
-        }
-    }
-
-    /// Queues a text for each connection of a page.
-    pub(crate) fn send_to_pages(&mut self, text: &str) -> Result<(), AllocError> {
-        for place in 0..self.slots.len() {
-            if self.has_page(place) {
-                self.send_to(place, text)?;
-            }
-        }
-        Ok(())
-    }
-
-    // Whether a connection of a page is at a place.
-    fn has_page(&self, place: usize) -> bool {
-        match self.slots.get(place) {
-            Some(slot) => is_page(slot),
-            None => false,
-        }
-    }
-
-    // The place of the connection with a number.
-    fn place_of(&self, conn: JsUint) -> Option<usize>
+    /// The place of the connection with a number.
+    pub(crate) fn place_of(&self, conn: JsUint) -> Option<usize>
         ensures { result ≡ place_of conn.value self.now }
     {
         let route = self.routes.iter().find(|route| route.conn == conn.value)?;
         Some(route.place)
     }
 
-    // Forgets the number of a connection.
-    fn forget(&mut self, conn: JsUint) {
-        if let Some(at) = self
-            .routes
-            .iter()
-            .position(|route| route.conn == conn.value)
-        {
-            self.routes.swap_remove(at);
-        }
-    }
-
-    /// Closes the connection with a number, because the remote end closes it.
-    pub(crate) fn close(
-        &mut self,
-        conn: JsUint,
-        deadline: Option<Instant>,
-    ) -> Result<(), AllocError> {
-        let found = self.place_of(conn);
-        self.forget(conn);
-        match found {
-            Some(place) => self.close_at(place, ClosingCause::Done, deadline),
-            None => Ok(()),
-        }
-    }
-
-    /// Closes the connection with a number by this code, because a test closes it.
-    pub(crate) fn close_with(
-        &mut self,
-        conn: JsUint,
-        code: u16,
-        deadline: Option<Instant>,
-    ) -> Result<(), AllocError> {
-        let found = self.place_of(conn);
-        self.forget(conn);
-        match found {
-            Some(place) => self.close_at(place, ClosingCause::Code(code), deadline),
-            None => Ok(()),
-        }
+    /// Forgets the number of a connection.
+    pub(crate) fn forget(&mut self, conn: JsUint)
+        ensures left { self.new.routes.items ≡ left_without conn.value self.old.routes.items }
+        ensures slots { self.new.slots ≡ self.old.slots }
+    {
+        self.routes.retain(|route| route.conn != conn.value);
     }
 
     /// Has nothing read from the connection with a number while it is open, or has it read again.
-    pub(crate) fn stall(&mut self, conn: JsUint, is_stalled: bool) {
+    pub(crate) fn stall(&mut self, conn: JsUint, is_stalled: bool)
+        ensures keeps { self.new.routes ≡ self.old.routes }
+    {
         let Some(place) = self.place_of(conn) else {
             return;
         };
         if let Some(Some(slot)) = self.slots.get_mut(place) {
             slot.is_stalled = is_stalled;
         }
-    }
-
-    /// Has the connection with a number end after so many bytes of the frame of its next message.
-    pub(crate) fn cut_after(&mut self, conn: JsUint, bytes: JsUint) {
-        let Some(place) = self.place_of(conn) else {
-            return;
-        };
-        if let Some(Some(slot)) = self.slots.get_mut(place) {
-            slot.cut_after = Some(bytes.value as usize);
-        }
-    }
-
-    /// Drops the connection with a number after what is queued, as far as the stream accepts it, without a close
-    /// frame.
-    pub(crate) fn cut(&mut self, conn: JsUint) {
-        let found = self.place_of(conn);
-        self.forget(conn);
-        let Some(place) = found else {
-            return;
-        };
-        if let Some(there) = self.slots.get_mut(place) {
-            if let Some(slot) = there {
-                slot.flush();
-            }
-            *there = None;
-        }
-    }
-
-    // Closes the connection at a place.
-    fn close_at(
-        &mut self,
-        place: usize,
-        cause: ClosingCause,
-        deadline: Option<Instant>,
-    ) -> Result<(), AllocError> {
-        match self.slots.get_mut(place) {
-            Some(Some(slot)) => slot.close(cause, deadline),
-            _ => Ok(()),
-        }
-    }
-
-    /// The connection at a place has ended. It is dropped at the deadline, or earlier when its queue is empty
-    /// and, if its stream is read out, its peer has ended too.
-    pub(crate) fn leave(&mut self, place: usize, role: Role, deadline: Option<Instant>) {
-        if let Role::Client(conn) = role {
-            self.forget(conn);
-        }
-        if let Some(Some(slot)) = self.slots.get_mut(place) {
-            slot.role = Role::Leaving;
-            slot.is_read_out |= role == Role::Arriving;
-            slot.deadline = deadline;
-            slot.is_due = true;
-        }
-    }
-
-    /// Closes all connections of the remote end, and with `pages` those of pages as well.
-    pub(crate) fn close_all(
-        &mut self,
-        pages: bool,
-        deadline: Option<Instant>,
-    ) -> Result<(), AllocError> {
-        self.routes.clear();
-        for slot in self.slots.iter_mut() {
-            if let Some(slot) = slot {
-                if is_closed_with(slot.role, pages) {
-                    slot.close(ClosingCause::GoingAway, deadline)?;
-                }
-            }
-        }
-        Ok(())
-    }
-
-    /// Writes what is queued, as far as the streams accept it, and drops the connections that are over.
-    pub(crate) fn flush(&mut self) {
-        for slot in self.slots.iter_mut() {
-            if flushed_is_over(slot) {
-                *slot = None;
-            }
-        }
-    }
-
-    /// Drops the connections whose deadline has passed. Returns the next deadline.
-    pub(crate) fn expire(&mut self, now: Instant) -> Option<Instant> {
-        let mut next = None;
-        for slot in self.slots.iter_mut() {
-            if is_past(slot, now) {
-                *slot = None;
-            } else {
-                next = earlier(next, deadline_of(slot));
-            }
-        }
-        next
-    }
-}
-
-// Queues a text for what is held at a place.
-fn send_in(there: &mut Option<Slot>, text: &str) -> Result<(), AllocError>
-    ensures { OnOk result (HandsIn text.now there.old there.new) }
-{
-    match there {
-        Some(slot) => {
-            slot.send(text)?;
-            Ok(())
-        }
-        None => Ok(()),
     }
 }
 
@@ -478,14 +272,5 @@ fn first_to_go(slots: &[Option<Slot>]) -> Option<usize> {
     match first {
         Some((_, place)) => Some(place),
         None => None,
-    }
-}
-
-// Whether a connection is closed by a reset, or with `pages` at the end.
-fn is_closed_with(role: Role, pages: bool) -> bool {
-    match role {
-        Role::Client(_) => true,
-        Role::Page | Role::Arriving => pages,
-        Role::Leaving => false,
     }
 }

@@ -11,7 +11,7 @@ use bidi_recorder::HostingFault;
 use bidi_tree::JsUint;
 
 impl Hosted {
-    ghost use Rattle.bidi_host_loop.specs.Goes.{By};
+    ghost use Rattle.bidi_host_loop.specs.Goes.{By, opening_of};
 
     // The remote end is asked to open a connection with this resource.
     pub(crate) fn opens<W: Surroundings>(
@@ -77,7 +77,7 @@ impl Hosted {
         text: &str,
     ) -> Result<Option<Answer>, HostingFault>
         ensures some { IfOk result (λ found. IfSome found (λ _. By (TakesPageLine text.now) self.old self.new)) }
-        ensures none { IfOk result (λ found. IfNone found (By (Says text.now) self.old self.new)) }
+        ensures none { IfOk result (λ found. IfNone found (By (Says (opening_of self.old) text.now) self.old self.new)) }
     {
         let Some(taken) = self.host.page_line(text)? else {
             return Ok(None);

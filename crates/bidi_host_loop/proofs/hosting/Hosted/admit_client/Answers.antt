@@ -7,7 +7,7 @@ use Rattle.bidi_host_loop.proofs.hosting.Hosted.admit_client.Goals as goal
 pub returns-then-not-is_open : goal.returns-then-not-is_open
 returns-then-not-is_open c =
     does_by (Denied c.args.place ∷ []) c.args.self.now _
-    (is_turned_away c.args.self.now.host.end (λ h so. sym (c.is_open.ensures h so) ∙ c.if-not-is_open.true)) (refl, refl, c.in_ok-deny.ensures)
+    (is_turned_away c.args.self.now.host.end (λ h so. sym (c.is_open.ensures h so) ∙ c.if-not-is_open.true)) ((refl, refl), refl, c.in_ok-deny.ensures.notes)
 
 pub returns : goal.returns
 returns c =

@@ -10,9 +10,9 @@ returns-then-eq g c =
 
 pub returns-in-Some : goal.returns-in-Some
 returns-in-Some g c =
-    refused_asked c.args.place _ c.args.resource.now c.args.self.now _ (refl, refl, c.in_ok-refuse_by_test.ensures)
+    refused_asked c.args.place _ c.args.resource.now c.args.self.now _ ((refl, refl), refl, c.in_ok-refuse_by_test.ensures.notes)
 
 pub returns : goal.returns
 returns g c =
     opened_asked c.args.place _ c.args.resource.now c.args.self.now c.opens.new.self c.admit_client.new.self
-    (rest_by c.args.self.now _ c.opens.new.self (refl, refl, refl) c.in_ok-opens.ensures) c.in_ok-admit_client.ensures
+    (rest_by c.args.self.now _ c.opens.new.self ((refl, refl), refl, refl) c.in_ok-opens.ensures) c.in_ok-admit_client.ensures

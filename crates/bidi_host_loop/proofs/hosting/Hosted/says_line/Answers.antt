@@ -4,7 +4,7 @@ use Rattle.bidi_host_loop.proofs.hosting.Hosted.says_line.Goals as goal
 
 pub returns-in_default-clause-none : goal.returns-in_default-clause-none
 returns-in_default-clause-none g c =
-    no_line_said c.args.text.now _ c.args.self.now _ c.in_default.is c.in_ok-taken.ensures.none refl refl
+    no_line_said c.args.text.now _ c.args.self.now _ c.in_default.is c.in_ok-taken.ensures.none (refl, refl) refl
 
 pub returns-clause-some : goal.returns-clause-some
 returns-clause-some g c =
