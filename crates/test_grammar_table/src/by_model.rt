@@ -5,18 +5,18 @@ use crate::tables::check_table;
 use std::test::Fail;
 
 const TABLES: &str = r#"
-= R0 = [(float .lt 0.3)]
+= rule0 = [(float .lt 0.3)]
 tuple 2
 number - -
 number - (0.3
-rule R0 0
+rule rule0 0
 3 1000000 unfit 360
 3 1000000 unfit true
 3 1000000 unfit null
 3 1000000 unfit [0.3]
 3 1000000 unfit 0
 3 1000000 unfit true
-= R0 = {("p/q": (1.5 / number) // b: [0.0...360.0, 1.5], method: "window"), * text => int} R1 = (("window" / (7 / bool) / R0) / R0) R2 = {a: [-5..5, text, "window"], ? method: [*text]}
+= rule0 = {("p/q": (1.5 / number) // b: [0.0...360.0, 1.5], method: "window"), * text => int} rule1 = (("window" / (7 / bool) / rule0) / rule0) rule2 = {a: [-5..5, text, "window"], ? method: [*text]}
 map 14 !p/q:13
 map 14 !b:15 !method:3
 either 0 1
@@ -38,9 +38,9 @@ list 0 20
 number [0.0 (360.0
 whole -5 5
 text
-rule R0 2
-rule R1 9
-rule R2 10
+rule rule0 2
+rule rule1 9
+rule rule2 10
 21 1000000 unfit {"method":"window","more":8}
 21 1000000 fits {"p/q":1.5}
 21 1000000 unfit 0.5
@@ -59,7 +59,7 @@ rule R2 10
 23 1000000 unfit {"a":[-5,"","window"],"more":1}
 23 1000000 unfit {"b":360,"p/q":0,"x~y":1.5707963267948967}
 23 1000000 unfit {"a":[-6,"tab","window"],"method":[]}
-= R0 = int R1 = [[R0, [+-5..5]], {"x~y": uint, b: int, ? a: 7, * text => text}, (float .lt 0.3)]
+= rule0 = int rule1 = [[rule0, [+-5..5]], {"x~y": uint, b: int, ? a: 7, * text => text}, (float .lt 0.3)]
 whole -18446744073709551616 18446744073709551615
 tuple 2 3 5
 tuple 0 6
@@ -71,8 +71,8 @@ whole 0 18446744073709551615
 whole 7 7
 text
 whole -5 5
-rule R0 0
-rule R1 1
+rule rule0 0
+rule rule1 1
 11 1000000 fits -3
 11 1000000 fits -3
 11 1000000 fits 7
@@ -85,7 +85,7 @@ rule R1 1
 12 1000000 unfit 0.09
 12 1000000 fits [[4,[-2]],{"a":7,"b":-4,"x~y":0},-2.5]
 12 1000000 unfit [[8,[]],{"a":7,"x~y":5,"b":0},-1.1]
-= R0 = {type: 0..1.5707963267948966, ? a: null, "p/q": text, * text => any} R1 = text R2 = [R1, 0..9]
+= rule0 = {type: 0..1.5707963267948966, ? a: null, "p/q": text, * text => any} rule1 = text rule2 = [rule1, 0..9]
 map 5 !type:3 ?a:4 !p/q:1
 text
 tuple 1 6
@@ -93,9 +93,9 @@ number [0 [1.5707963267948966
 null
 any
 whole 0 9
-rule R0 0
-rule R1 1
-rule R2 2
+rule rule0 0
+rule rule1 1
+rule rule2 2
 7 1000000 fits {"type":0,"p/q":"x","a":null,"more":0.09}
 7 1000000 fits {"p/q":"tab","type":0.7853981633974483,"more":9}
 7 1000000 fits {"type":0,"p/q":"tab","a":null,"more":{"a":-1.5e-3,"method":1.5707963267948966,"type":true}}
@@ -114,12 +114,12 @@ rule R2 2
 9 1000000 fits ["",0]
 9 1000000 unfit ["tab",-1]
 9 1000000 unfit -5
-= R0 = number R1 = "window" R2 = "window"
+= rule0 = number rule1 = "window" rule2 = "window"
 number - -
 exactly window
-rule R0 0
-rule R1 1
-rule R2 1
+rule rule0 0
+rule rule1 1
+rule rule2 1
 2 1000000 fits -1.5
 2 1000000 fits 9
 2 1000000 fits -1.5
@@ -138,7 +138,7 @@ rule R2 1
 4 1000000 fits "window"
 4 1000000 fits "window"
 4 1000000 fits "window"
-= R0 = (([2*number] / [2*text] / (0.1..2.0 / uint / text)) / "tab" / [{? b: (float .ge 0.5), method: null, * text => int}, (uint / 0.1..2.0)]) R1 = "window" R2 = 0..9
+= rule0 = (([2*number] / [2*text] / (0.1..2.0 / uint / text)) / "tab" / [{? b: (float .ge 0.5), method: null, * text => int}, (uint / 0.1..2.0)]) rule1 = "window" rule2 = 0..9
 list 2 15
 list 2 4
 number [0.1 [2.0
@@ -160,9 +160,9 @@ either 3 2
 number [0.5 -
 null
 whole -18446744073709551616 18446744073709551615
-rule R0 12
-rule R1 13
-rule R2 14
+rule rule0 12
+rule rule1 13
+rule rule2 14
 21 1000000 fits 0.1
 21 1000000 fits [{"method":null,"more":-4},1.05]
 21 1000000 unfit ["x"]
@@ -181,17 +181,17 @@ rule R2 14
 23 1000000 unfit 10
 23 1000000 unfit -1
 23 1000000 fits 0
-= R0 = {? "x~y": true}
+= rule0 = {? "x~y": true}
 map - ?x~y:1
 true
-rule R0 0
+rule rule0 0
 2 1000000 fits {"x~y":true}
 2 1000000 fits {"x~y":true}
 2 1000000 fits {"x~y":true}
 2 1000000 unfit [[0.1,{"b":10}]]
 2 1000000 fits {}
 2 1000000 fits {"x~y":true}
-= R0 = [2*("tab" / [true, null, int] / {a: 7})] R1 = ([+[7, "tab"]] / [0.1..2.0])
+= rule0 = [2*("tab" / [true, null, int] / {a: 7})] rule1 = ([+[7, "tab"]] / [0.1..2.0])
 list 2 8
 list 1 9
 tuple 10
@@ -207,8 +207,8 @@ true
 null
 whole -18446744073709551616 18446744073709551615
 whole 7 7
-rule R0 0
-rule R1 3
+rule rule0 0
+rule rule1 3
 15 1000000 fits [[true,null,-4],"tab",[true,null,7]]
 15 1000000 unfit [{"a":8},"tab"]
 15 1000000 fits ["tab",[true,null,0],{"a":7}]
@@ -221,12 +221,12 @@ rule R1 3
 16 1000000 unfit []
 16 1000000 unfit []
 16 1000000 unfit []
-= R0 = true R1 = uint R2 = R1
+= rule0 = true rule1 = uint rule2 = rule1
 true
 whole 0 18446744073709551615
-rule R0 0
-rule R1 1
-rule R2 1
+rule rule0 0
+rule rule1 1
+rule rule2 1
 2 1000000 unfit 0.09
 2 1000000 fits true
 2 1000000 fits true
@@ -245,7 +245,7 @@ rule R2 1
 4 1000000 unfit {}
 4 1000000 unfit {}
 4 1000000 fits 7
-= R0 = {method: (text / "tab"), ? "p/q": {(? method: "tab" // ? type: (float .lt 0.3))}} R1 = any
+= rule0 = {method: (text / "tab"), ? "p/q": {(? method: "tab" // ? type: (float .lt 0.3))}} rule1 = any
 map - !method:4 ?p/q:7
 any
 text
@@ -256,8 +256,8 @@ map - ?type:9
 either 5 6
 number - -
 number - (0.3
-rule R0 0
-rule R1 1
+rule rule0 0
+rule rule1 1
 10 1000000 unfit {"p/q":{"method":"tab"},"method":"tab","more":1}
 10 1000000 unfit {"p/q":{"type":-1.1}}
 10 1000000 fits {"method":"tab"}
@@ -270,7 +270,7 @@ rule R1 1
 11 1000000 fits {"more":-6,"method":0.3}
 11 1000000 fits 0.29999
 11 1000000 fits {"a":[{},0.1],"x~y":1e0}
-= R0 = 0.0...360.0 R1 = ((((float .lt 0.3) / "tab") / R0 / R0) / uint)
+= rule0 = 0.0...360.0 rule1 = ((((float .lt 0.3) / "tab") / rule0 / rule0) / uint)
 number [0.0 (360.0
 number - -
 number - (0.3
@@ -280,8 +280,8 @@ either 0 0
 either 4 5
 whole 0 18446744073709551615
 either 6 7
-rule R0 0
-rule R1 8
+rule rule0 0
+rule rule1 8
 9 1000000 fits 0.0
 9 1000000 unfit ["tab",1]
 9 1000000 fits 0.0
@@ -294,11 +294,11 @@ rule R1 8
 10 1000000 fits 0.0
 10 1000000 fits 0.3
 10 1000000 fits 0
-= R0 = any R1 = true
+= rule0 = any rule1 = true
 any
 true
-rule R0 0
-rule R1 1
+rule rule0 0
+rule rule1 1
 2 1000000 fits {"type":"tab","b":"x"}
 2 1000000 fits 1e0
 2 1000000 fits null
@@ -311,7 +311,7 @@ rule R1 1
 3 1000000 fits true
 3 1000000 fits true
 3 1000000 fits true
-= R0 = (any / 0..1.5707963267948966 / int) R1 = [R0, 0.1..2.0] R2 = R0
+= rule0 = (any / 0..1.5707963267948966 / int) rule1 = [rule0, 0.1..2.0] rule2 = rule0
 any
 number [0 [1.5707963267948966
 whole -18446744073709551616 18446744073709551615
@@ -319,9 +319,9 @@ either 1 2
 either 0 3
 tuple 4 6
 number [0.1 [2.0
-rule R0 4
-rule R1 5
-rule R2 4
+rule rule0 4
+rule rule1 5
+rule rule2 4
 7 1000000 fits null
 7 1000000 fits [[],1.5707963267948967]
 7 1000000 fits -4
@@ -340,16 +340,16 @@ rule R2 4
 9 1000000 fits 1e0
 9 1000000 fits 1e400
 9 1000000 fits 359.9
-= R0 = R1 R1 = 0.1..2.0 R2 = [uint, R1, [+{? "x~y": 0.1..2.0, a: 0.1..2.0, * text => text}]]
+= rule0 = rule1 rule1 = 0.1..2.0 rule2 = [uint, rule1, [+{? "x~y": 0.1..2.0, a: 0.1..2.0, * text => text}]]
 number [0.1 [2.0
 tuple 2 0 3
 whole 0 18446744073709551615
 list 1 4
 map 5 ?x~y:0 !a:0
 text
-rule R0 0
-rule R1 0
-rule R2 1
+rule rule0 0
+rule rule1 0
+rule rule2 1
 6 1000000 unfit [[],{"b":true}]
 6 1000000 fits 2.0
 6 1000000 fits 0.1
@@ -368,12 +368,12 @@ rule R2 1
 8 1000000 fits [11,0.1,[{"a":0.1}]]
 8 1000000 unfit [10,2.0,[]]
 8 1000000 fits [11,2.0,[{"a":2.0,"x~y":2.0,"more":""}]]
-= R0 = R1 R1 = 0..9 R2 = null
+= rule0 = rule1 rule1 = 0..9 rule2 = null
 whole 0 9
 null
-rule R0 0
-rule R1 0
-rule R2 1
+rule rule0 0
+rule rule1 0
+rule rule2 1
 2 1000000 unfit 10
 2 1000000 unfit 10
 2 1000000 fits 9
@@ -392,7 +392,7 @@ rule R2 1
 4 1000000 unfit 0.5
 4 1000000 fits null
 4 1000000 fits null
-= R0 = [{? (? "x~y": "window")}] R1 = [{(? "p/q": int // b: any, a: (float .ge 0.5)), * text => text}]
+= rule0 = [{? (? "x~y": "window")}] rule1 = [{(? "p/q": int // b: any, a: (float .ge 0.5)), * text => text}]
 tuple 4
 tuple 7
 map - ?x~y:8
@@ -407,8 +407,8 @@ text
 any
 number - -
 number [0.5 -
-rule R0 0
-rule R1 1
+rule rule0 0
+rule rule1 1
 14 1000000 fits [{}]
 14 1000000 unfit -1.5e-3
 14 1000000 fits [{}]
@@ -421,17 +421,17 @@ rule R1 1
 15 1000000 unfit [{"b":-1.5e-3}]
 15 1000000 fits [{"b":[9,2.0],"a":1.5,"more":"x"}]
 15 1000000 fits [{"more":"tab"}]
-= R0 = (float .lt 0.3)
+= rule0 = (float .lt 0.3)
 number - -
 number - (0.3
-rule R0 1
+rule rule0 1
 2 1000000 unfit [1.5707963267948967]
 2 1000000 fits -2.5
 2 1000000 fits -2.5
 2 1000000 fits -1.1
 2 1000000 unfit null
 2 1000000 unfit 0.3
-= R0 = {(b: true)} R1 = (uint / [["window", 7, true], {(b: number // ? "x~y": any, ? a: -5..5)}, (float .lt 0.3)]) R2 = -5..5
+= rule0 = {(b: true)} rule1 = (uint / [["window", 7, true], {(b: number // ? "x~y": any, ? a: -5..5)}, (float .lt 0.3)]) rule2 = -5..5
 map - !b:5
 whole 0 18446744073709551615
 tuple 6 9 11
@@ -447,9 +447,9 @@ number - (0.3
 exactly window
 whole 7 7
 any
-rule R0 0
-rule R1 3
-rule R2 4
+rule rule0 0
+rule rule1 3
+rule rule2 4
 15 1000000 fits {"b":true}
 15 1000000 fits {"b":true}
 15 1000000 fits {"b":true}
@@ -468,20 +468,20 @@ rule R2 4
 17 1000000 fits 5
 17 1000000 unfit []
 17 1000000 fits -5
-= R0 = (["window"] / {(? a: any)})
+= rule0 = (["window"] / {(? a: any)})
 tuple 3
 map - ?a:4
 either 0 1
 exactly window
 any
-rule R0 2
+rule rule0 2
 5 1000000 unfit {"more":1}
 5 1000000 fits ["window"]
 5 1000000 unfit []
 5 1000000 fits ["window"]
 5 1000000 unfit 1.0
 5 1000000 unfit [1e0,[{"type":360,"more":360},1e0],{"type":[1.5707963267948967],"b":{"type":0.5,"more":359.9},"x~y":{}}]
-= R0 = 0..1.5707963267948966 R1 = ((float .ge 0.5) / [*true] / [0..9, (float .lt 0.3)])
+= rule0 = 0..1.5707963267948966 rule1 = ((float .ge 0.5) / [*true] / [0..9, (float .lt 0.3)])
 number [0 [1.5707963267948966
 number - -
 number [0.5 -
@@ -492,8 +492,8 @@ either 2 5
 true
 whole 0 9
 number - (0.3
-rule R0 0
-rule R1 6
+rule rule0 0
+rule rule1 6
 10 1000000 fits 1.5707963267948966
 10 1000000 fits 1.5707963267948966
 10 1000000 unfit {"p/q":10}
@@ -506,7 +506,7 @@ rule R1 6
 11 1000000 fits 0.5
 11 1000000 fits []
 11 1000000 unfit [10,-1.1]
-= R0 = {(? method: any // a: [-5..5])} R1 = int
+= rule0 = {(? method: any // a: [-5..5])} rule1 = int
 map - ?method:4
 map - !a:5
 either 0 1
@@ -514,8 +514,8 @@ whole -18446744073709551616 18446744073709551615
 any
 tuple 6
 whole -5 5
-rule R0 2
-rule R1 3
+rule rule0 2
+rule rule1 3
 7 1000000 fits {}
 7 1000000 fits {"method":{}}
 7 1000000 unfit 0.29999
@@ -528,7 +528,7 @@ rule R1 3
 8 1000000 unfit [[10,0.29999,0.29999],-5]
 8 1000000 fits 7
 8 1000000 unfit {"a":["window"]}
-= R0 = ([2*[0.1..2.0, 1.5, (float .ge 0.5)]] / 0..1.5707963267948966)
+= rule0 = ([2*[0.1..2.0, 1.5, (float .ge 0.5)]] / 0..1.5707963267948966)
 list 2 3
 number [0 [1.5707963267948966
 either 0 1
@@ -537,23 +537,23 @@ number [0.1 [2.0
 number [1.5 [1.5
 number - -
 number [0.5 -
-rule R0 2
+rule rule0 2
 8 1000000 fits 1.5707963267948966
 8 1000000 fits 0
 8 1000000 fits 0
 8 1000000 fits 0
 8 1000000 unfit [[1.0,{}]]
 8 1000000 unfit [[0.1,1.5,1.5]]
-= R0 = uint
+= rule0 = uint
 whole 0 18446744073709551615
-rule R0 0
+rule rule0 0
 1 1000000 fits 11
 1 1000000 fits 11
 1 1000000 unfit 2.0
 1 1000000 fits 11
 1 1000000 unfit [7]
 1 1000000 fits 0
-= R0 = [2*(float .ge 0.5)] R1 = ({(a: 0.1..2.0), * text => text} / R0)
+= rule0 = [2*(float .ge 0.5)] rule1 = ({(a: 0.1..2.0), * text => text} / rule0)
 list 2 4
 map 6 !a:5
 either 1 0
@@ -561,8 +561,8 @@ number - -
 number [0.5 -
 number [0.1 [2.0
 text
-rule R0 0
-rule R1 2
+rule rule0 0
+rule rule1 2
 7 1000000 unfit [1.5]
 7 1000000 fits [1.5,0.5,1.0]
 7 1000000 fits [1.0,0.5]
@@ -575,7 +575,7 @@ rule R1 2
 8 1000000 fits {"a":0.1}
 8 1000000 unfit [0]
 8 1000000 fits [1.5,1.0]
-= R0 = (("window" / [+"window"]) / (float .lt 0.3)) R1 = null
+= rule0 = (("window" / [+"window"]) / (float .lt 0.3)) rule1 = null
 exactly window
 list 1 0
 either 0 1
@@ -583,8 +583,8 @@ number - -
 number - (0.3
 either 2 4
 null
-rule R0 5
-rule R1 6
+rule rule0 5
+rule rule1 6
 7 1000000 unfit 0.3
 7 1000000 unfit 0.3
 7 1000000 unfit 18446744073709551615
@@ -597,13 +597,13 @@ rule R1 6
 8 1000000 fits null
 8 1000000 unfit {"more":{"b":360,"type":[0.29999]}}
 8 1000000 fits null
-= R0 = true R1 = int R2 = 0.0...360.0
+= rule0 = true rule1 = int rule2 = 0.0...360.0
 true
 whole -18446744073709551616 18446744073709551615
 number [0.0 (360.0
-rule R0 0
-rule R1 1
-rule R2 2
+rule rule0 0
+rule rule1 1
+rule rule2 2
 3 1000000 fits true
 3 1000000 fits true
 3 1000000 unfit {}
@@ -622,7 +622,7 @@ rule R2 2
 5 1000000 fits 0.0
 5 1000000 fits 0.0
 5 1000000 unfit null
-= R0 = 7 R1 = [{? a: any, ? method: -5..5}] R2 = {a: number, ? (? b: R1)}
+= rule0 = 7 rule1 = [{? a: any, ? method: -5..5}] rule2 = {a: number, ? (? b: rule1)}
 whole 7 7
 tuple 5
 map - !a:6 ?b:1
@@ -632,9 +632,9 @@ map - ?a:7 ?method:8
 number - -
 any
 whole -5 5
-rule R0 0
-rule R1 1
-rule R2 4
+rule rule0 0
+rule rule1 1
+rule rule2 4
 9 1000000 unfit 1.5707963267948967
 9 1000000 unfit 1
 9 1000000 unfit [{"x~y":18446744073709551615,"p/q":0.5},[1e0,[]]]
@@ -653,7 +653,7 @@ rule R2 4
 11 1000000 unfit 2.0
 11 1000000 unfit 2.0
 11 1000000 unfit {}
-= R0 = -5..5 R1 = {type: ["tab", 7], "x~y": (0..9 / 0..1.5707963267948966)} R2 = (uint / null / [(int / any)])
+= rule0 = -5..5 rule1 = {type: ["tab", 7], "x~y": (0..9 / 0..1.5707963267948966)} rule2 = (uint / null / [(int / any)])
 whole -5 5
 map - !type:7 !x~y:10
 whole 0 18446744073709551615
@@ -670,9 +670,9 @@ any
 either 11 12
 exactly tab
 whole 7 7
-rule R0 0
-rule R1 1
-rule R2 6
+rule rule0 0
+rule rule1 1
+rule rule2 6
 16 1000000 fits -5
 16 1000000 unfit -6
 16 1000000 fits -3
@@ -691,7 +691,7 @@ rule R2 6
 18 1000000 fits [8]
 18 1000000 fits [7]
 18 1000000 fits null
-= R0 = {method: true, ? type: [+0..1.5707963267948966]} R1 = [([number, (float .ge 0.5)] / bool)] R2 = true
+= rule0 = {method: true, ? type: [+0..1.5707963267948966]} rule1 = [([number, (float .ge 0.5)] / bool)] rule2 = true
 map - !method:2 ?type:3
 tuple 6
 true
@@ -702,9 +702,9 @@ either 4 5
 number [0 [1.5707963267948966
 number - -
 number [0.5 -
-rule R0 0
-rule R1 1
-rule R2 2
+rule rule0 0
+rule rule1 1
+rule rule2 2
 10 1000000 unfit [1e400,[{"p/q":1e0},1.0]]
 10 1000000 unfit [2.0]
 10 1000000 unfit 2.0
@@ -723,13 +723,13 @@ rule R2 2
 12 1000000 fits true
 12 1000000 fits true
 12 1000000 fits true
-= R0 = "window" R1 = {? a: R0, b: null, "p/q": any}
+= rule0 = "window" rule1 = {? a: rule0, b: null, "p/q": any}
 exactly window
 map - ?a:0 !b:2 !p/q:3
 null
 any
-rule R0 0
-rule R1 1
+rule rule0 0
+rule rule1 1
 4 1000000 fits "window"
 4 1000000 unfit 1.0
 4 1000000 unfit null
@@ -742,34 +742,34 @@ rule R1 1
 5 1000000 unfit {"p/q":{"b":9,"x~y":-6},"a":"window","b":null,"more":1}
 5 1000000 unfit {}
 5 1000000 fits {"p/q":10,"b":null,"a":"window"}
-= R0 = [*0..9]
+= rule0 = [*0..9]
 list 0 1
 whole 0 9
-rule R0 0
+rule rule0 0
 2 1000000 fits [8]
 2 1000000 fits []
 2 1000000 unfit [-1]
 2 1000000 fits []
 2 1000000 fits []
 2 1000000 unfit 0.29999
-= R0 = {a: R0, ? method: [+7], ? "p/q": uint}
+= rule0 = {a: rule0, ? method: [+7], ? "p/q": uint}
 map - !a:0 ?method:1 ?p/q:2
 list 1 3
 whole 0 18446744073709551615
 whole 7 7
-rule R0 0
+rule rule0 0
 4 1000000 unfit {"p/q":10,"a":{"p/q":4,"method":[7,7],"a":{"a":{"a":{"a":2},"p/q":-1}}}}
 4 1000000 unfit []
 4 1000000 unfit {"p/q":10,"a":{"method":[],"a":{"a":{"a":{"a":18446744073709551615,"p/q":10,"method":9},"p/q":11,"method":[]},"method":[6]},"p/q":11},"method":[7,6]}
 4 1000000 unfit 360
 4 1000000 unfit {"p/q":10}
 4 1000000 unfit {"p/q":10,"a":{"method":[7],"a":{"a":{"a":{"method":1e400,"a":true},"p/q":11,"method":[6,7]}}}}
-= R0 = 7 R1 = [*any]
+= rule0 = 7 rule1 = [*any]
 whole 7 7
 list 0 2
 any
-rule R0 0
-rule R1 1
+rule rule0 0
+rule rule1 1
 3 1000000 unfit 6
 3 1000000 unfit 8
 3 1000000 fits 7
@@ -782,7 +782,7 @@ rule R1 1
 4 1000000 fits [{"method":2,"b":true,"a":360}]
 4 1000000 fits [true]
 4 1000000 fits [null]
-= R0 = {"p/q": (0..1.5707963267948966 / text / 1.5), ? a: [bool, "window"], ? method: {? "x~y": "tab", method: 0.1..2.0}} R1 = (true / (R0 / R0 / ["tab", null, text]) / {(method: number), * text => any}) R2 = (0.0...360.0 / -5..5)
+= rule0 = {"p/q": (0..1.5707963267948966 / text / 1.5), ? a: [bool, "window"], ? method: {? "x~y": "tab", method: 0.1..2.0}} rule1 = (true / (rule0 / rule0 / ["tab", null, text]) / {(method: number), * text => any}) rule2 = (0.0...360.0 / -5..5)
 map - !p/q:15 ?a:16 ?method:17
 true
 tuple 18 19 12
@@ -808,9 +808,9 @@ any
 bool
 exactly window
 number [0.1 [2.0
-rule R0 0
-rule R1 7
-rule R2 10
+rule rule0 0
+rule rule1 7
+rule rule2 10
 25 1000000 fits {"a":[false,"window"],"p/q":"x"}
 25 1000000 fits {"a":[true,"window"],"p/q":1.5707963267948966}
 25 1000000 unfit 1.570796326794897
@@ -829,7 +829,7 @@ rule R2 10
 27 1000000 fits 5
 27 1000000 unfit 360.0
 27 1000000 unfit -6
-= R0 = [{type: 0.0...360.0, "x~y": -5..5, * text => int}, {? "x~y": 0.0...360.0, ? b: true, * text => text}] R1 = R0
+= rule0 = [{type: 0.0...360.0, "x~y": -5..5, * text => int}, {? "x~y": 0.0...360.0, ? b: true, * text => text}] rule1 = rule0
 tuple 1 2
 map 5 !type:3 !x~y:4
 map 7 ?x~y:3 ?b:6
@@ -838,8 +838,8 @@ whole -5 5
 whole -18446744073709551616 18446744073709551615
 true
 text
-rule R0 0
-rule R1 0
+rule rule0 0
+rule rule1 0
 8 1000000 unfit [{"x~y":-6,"type":0.0},{"more":"x"}]
 8 1000000 unfit [{"type":360.0,"x~y":1,"more":-3},{"x~y":180.0,"b":true,"more":"tab"}]
 8 1000000 unfit [{"type":0.0,"x~y":-6},{"x~y":0.0,"b":true,"more":""}]
@@ -852,16 +852,16 @@ rule R1 0
 9 1000000 fits [{"x~y":1,"type":180.0,"more":7},{"x~y":180.0}]
 9 1000000 unfit 359.9
 9 1000000 fits [{"x~y":5,"type":180.0},{"b":true,"more":""}]
-= R0 = int
+= rule0 = int
 whole -18446744073709551616 18446744073709551615
-rule R0 0
+rule rule0 0
 1 1000000 fits 7
 1 1000000 fits -3
 1 1000000 fits 3
 1 1000000 fits 7
 1 1000000 fits 7
 1 1000000 unfit {"more":0.29999,"type":[{"method":0.29999,"x~y":"tab"},"window"]}
-= R0 = {? type: {? method: (float .lt 0.3), "p/q": 0.1..2.0, ? (? "x~y": true), * text => text}, * text => text} R1 = ({method: -5..5, ? b: uint, ? (? "x~y": (float .lt 0.3))} / [*1.5])
+= rule0 = {? type: {? method: (float .lt 0.3), "p/q": 0.1..2.0, ? (? "x~y": true), * text => text}, * text => text} rule1 = ({method: -5..5, ? b: uint, ? (? "x~y": (float .lt 0.3))} / [*1.5])
 map 9 ?type:8
 map - !method:10 ?b:11 ?x~y:13
 map - !method:10 ?b:11
@@ -879,8 +879,8 @@ number - (0.3
 number [1.5 [1.5
 number [0.1 [2.0
 true
-rule R0 0
-rule R1 5
+rule rule0 0
+rule rule1 5
 17 1000000 unfit {"type":{"p/q":0.1,"method":0.3,"x~y":true,"more":"tab"}}
 17 1000000 unfit {"x~y":359.9}
 17 1000000 fits {"type":{"p/q":0.1,"more":"x"}}
@@ -893,7 +893,7 @@ rule R1 5
 18 1000000 fits [1.5]
 18 1000000 unfit {"method":5,"x~y":0.3}
 18 1000000 unfit 1.5707963267948967
-= R0 = int R1 = {? a: 7, * text => int} R2 = ({? "p/q": int, ? type: true, * text => int} / R0 / 0.1..2.0)
+= rule0 = int rule1 = {? a: 7, * text => int} rule2 = ({? "p/q": int, ? type: true, * text => int} / rule0 / 0.1..2.0)
 whole -18446744073709551616 18446744073709551615
 map 0 ?a:6
 map 0 ?p/q:0 ?type:7
@@ -902,9 +902,9 @@ either 0 3
 either 2 4
 whole 7 7
 true
-rule R0 0
-rule R1 1
-rule R2 5
+rule rule0 0
+rule rule1 1
+rule rule2 5
 8 1000000 fits -1
 8 1000000 unfit {"p/q":0.3}
 8 1000000 fits -3
@@ -923,50 +923,50 @@ rule R2 5
 10 1000000 fits 7
 10 1000000 fits 0.1
 10 1000000 fits {"type":true,"p/q":8,"more":7}
-= R0 = ([+(true / "tab")] / -5..5)
+= rule0 = ([+(true / "tab")] / -5..5)
 list 1 5
 whole -5 5
 either 0 1
 true
 exactly tab
 either 3 4
-rule R0 2
+rule rule0 2
 6 1000000 unfit 6
 6 1000000 fits ["tab"]
 6 1000000 fits -5
 6 1000000 fits ["tab"]
 6 1000000 fits ["tab"]
 6 1000000 unfit [{"a":-0,"p/q":{"x~y":7,"b":0.5,"method":360}}]
-= R0 = 7
+= rule0 = 7
 whole 7 7
-rule R0 0
+rule rule0 0
 1 1000000 fits 7
 1 1000000 unfit 8
 1 1000000 fits 7
 1 1000000 fits 7
 1 1000000 unfit 8
 1 1000000 fits 7
-= R0 = ([2*text] / "tab")
+= rule0 = ([2*text] / "tab")
 list 2 3
 exactly tab
 either 0 1
 text
-rule R0 2
+rule rule0 2
 4 1000000 fits "tab"
 4 1000000 unfit 1.5
 4 1000000 unfit false
 4 1000000 fits "tab"
 4 1000000 fits "tab"
 4 1000000 fits "tab"
-= R0 = {? method: [2*text], "p/q": (text / true), * text => text} R1 = R0 R2 = R0
+= rule0 = {? method: [2*text], "p/q": (text / true), * text => text} rule1 = rule0 rule2 = rule0
 map 2 ?method:1 !p/q:4
 list 2 2
 text
 true
 either 2 3
-rule R0 0
-rule R1 0
-rule R2 0
+rule rule0 0
+rule rule1 0
+rule rule2 0
 5 1000000 unfit {"method":["tab"],"p/q":true}
 5 1000000 unfit 18446744073709551615
 5 1000000 fits {"p/q":true,"more":"tab"}
@@ -985,7 +985,7 @@ rule R2 0
 7 1000000 fits {"p/q":true,"method":["tab","tab"],"more":""}
 7 1000000 unfit {"more":"x"}
 7 1000000 unfit 1
-= R0 = {? b: 0..1.5707963267948966, type: (text / 7), ? a: 0..1.5707963267948966, * text => any} R1 = 0.0...360.0
+= rule0 = {? b: 0..1.5707963267948966, type: (text / 7), ? a: 0..1.5707963267948966, * text => any} rule1 = 0.0...360.0
 map 6 ?b:2 !type:5 ?a:2
 number [0.0 (360.0
 number [0 [1.5707963267948966
@@ -993,8 +993,8 @@ text
 whole 7 7
 either 3 4
 any
-rule R0 0
-rule R1 1
+rule rule0 0
+rule rule1 1
 7 1000000 unfit {"b":0,"a":1.5707963267948966,"more":1.5707963267948966}
 7 1000000 fits {"type":7,"b":0,"more":0.3}
 7 1000000 unfit -6
@@ -1007,7 +1007,7 @@ rule R1 1
 8 1000000 fits 180.0
 8 1000000 unfit 360.0
 8 1000000 unfit "window"
-= R0 = ({? (a: true), * text => any} / {type: uint, ? "p/q": null, ? (? "x~y": 0..9), * text => int} / 0.0...360.0) R1 = (uint / R0) R2 = ["window", ["window", text], [*{(? a: 0..1.5707963267948966 // ? b: true)}]]
+= rule0 = ({? (a: true), * text => any} / {type: uint, ? "p/q": null, ? (? "x~y": 0..9), * text => int} / 0.0...360.0) rule1 = (uint / rule0) rule2 = ["window", ["window", text], [*{(? a: 0..1.5707963267948966 // ? b: true)}]]
 map 13 !a:12
 map 13
 either 0 1
@@ -1033,9 +1033,9 @@ map - ?a:24
 map - ?b:12
 either 21 22
 number [0 [1.5707963267948966
-rule R0 8
-rule R1 10
-rule R2 11
+rule rule0 8
+rule rule1 10
+rule rule2 11
 25 1000000 fits {"a":true,"more":[null,-5]}
 25 1000000 fits {"more":1}
 25 1000000 fits {"p/q":null,"type":0}
@@ -1054,7 +1054,7 @@ rule R2 11
 27 1000000 fits ["window",["window",""],[{"b":true}]]
 27 1000000 fits ["window",["window",""],[{"b":true}]]
 27 1000000 unfit {"a":0.1,"more":1e400}
-= R0 = 0.0...360.0 R1 = ({b: int, ? "x~y": null} / (number / [+uint]) / R0)
+= rule0 = 0.0...360.0 rule1 = ({b: int, ? "x~y": null} / (number / [+uint]) / rule0)
 number [0.0 (360.0
 map - !b:7 ?x~y:8
 number - -
@@ -1065,8 +1065,8 @@ either 1 5
 whole -18446744073709551616 18446744073709551615
 null
 whole 0 18446744073709551615
-rule R0 0
-rule R1 6
+rule rule0 0
+rule rule1 6
 10 1000000 unfit 360.0
 10 1000000 fits 0.0
 10 1000000 unfit 360.0
@@ -1079,7 +1079,7 @@ rule R1 6
 11 1000000 fits {"b":8}
 11 1000000 unfit "window"
 11 1000000 fits {"b":8,"x~y":null}
-= R0 = true R1 = {method: [any], ? "x~y": ["window"], * text => text} R2 = R1
+= rule0 = true rule1 = {method: [any], ? "x~y": ["window"], * text => text} rule2 = rule1
 true
 map 4 !method:2 ?x~y:3
 tuple 5
@@ -1087,9 +1087,9 @@ tuple 6
 text
 any
 exactly window
-rule R0 0
-rule R1 1
-rule R2 1
+rule rule0 0
+rule rule1 1
+rule rule2 1
 7 1000000 fits true
 7 1000000 unfit [{"type":1e400,"p/q":[-1.5e-3,1],"more":1e400}]
 7 1000000 unfit 1.0
@@ -1108,7 +1108,7 @@ rule R2 1
 9 1000000 fits {"method":[{"type":0.1,"method":-0,"x~y":1}],"more":"x"}
 9 1000000 unfit {}
 9 1000000 fits {"x~y":["window"],"method":[7]}
-= R0 = [2*[+[*(float .ge 0.5)]]] R1 = [R0, R0] R2 = "tab"
+= rule0 = [2*[+[*(float .ge 0.5)]]] rule1 = [rule0, rule0] rule2 = "tab"
 list 2 3
 tuple 0 0
 exactly tab
@@ -1116,9 +1116,9 @@ list 1 4
 list 0 6
 number - -
 number [0.5 -
-rule R0 0
-rule R1 1
-rule R2 2
+rule rule0 0
+rule rule1 1
+rule rule2 2
 7 1000000 fits [[[],[]],[[]]]
 7 1000000 unfit 2
 7 1000000 fits [[[1.0],[]],[[],[]]]
@@ -1137,14 +1137,14 @@ rule R2 2
 9 1000000 fits "tab"
 9 1000000 fits "tab"
 9 1000000 unfit {"p/q":1e400}
-= R0 = bool R1 = R2 R2 = {(? type: int), * text => any}
+= rule0 = bool rule1 = rule2 rule2 = {(? type: int), * text => any}
 bool
 map 3 ?type:2
 whole -18446744073709551616 18446744073709551615
 any
-rule R0 0
-rule R1 1
-rule R2 1
+rule rule0 0
+rule rule1 1
+rule rule2 1
 4 1000000 fits false
 4 1000000 unfit 359.9
 4 1000000 fits false
@@ -1163,7 +1163,7 @@ rule R2 1
 6 1000000 fits {"type":-3,"more":0.09}
 6 1000000 fits {}
 6 1000000 fits {"type":-3}
-= R0 = ((null / "window") / (-5..5 / {"p/q": 0.0...360.0, type: any}))
+= rule0 = ((null / "window") / (-5..5 / {"p/q": 0.0...360.0, type: any}))
 null
 exactly window
 either 0 1
@@ -1173,20 +1173,20 @@ either 3 4
 either 2 5
 number [0.0 (360.0
 any
-rule R0 6
+rule rule0 6
 9 1000000 fits "window"
 9 1000000 fits {"type":359.9,"p/q":180.0}
 9 1000000 unfit [{"x~y":359.9},0]
 9 1000000 fits "window"
 9 1000000 unfit -6
 9 1000000 fits -1
-= R0 = 0..9 R1 = null R2 = any
+= rule0 = 0..9 rule1 = null rule2 = any
 whole 0 9
 null
 any
-rule R0 0
-rule R1 1
-rule R2 2
+rule rule0 0
+rule rule1 1
+rule rule2 2
 3 1000000 fits 0
 3 1000000 fits 1
 3 1000000 unfit 10
@@ -1205,16 +1205,16 @@ rule R2 2
 5 1000000 fits null
 5 1000000 fits 1.5707963267948967
 5 1000000 fits {"more":null,"type":1e0,"method":{}}
-= R0 = 0..1.5707963267948966
+= rule0 = 0..1.5707963267948966
 number [0 [1.5707963267948966
-rule R0 0
+rule rule0 0
 1 1000000 fits 1.5707963267948966
 1 1000000 fits 0.7853981633974483
 1 1000000 fits 0.7853981633974483
 1 1000000 fits 0.7853981633974483
 1 1000000 fits 0.7853981633974483
 1 1000000 unfit [1.5,"tab",0.1]
-= R0 = [(true / ("window" / (float .lt 0.3) / true)), (null / (0..1.5707963267948966 / 1.5) / true)] R1 = {? (b: R0)} R2 = (float .lt 0.3)
+= rule0 = [(true / ("window" / (float .lt 0.3) / true)), (null / (0..1.5707963267948966 / 1.5) / true)] rule1 = {? (b: rule0)} rule2 = (float .lt 0.3)
 tuple 10 16
 map - !b:0
 map -
@@ -1232,9 +1232,9 @@ number [1.5 [1.5
 either 12 13
 either 14 6
 either 11 15
-rule R0 0
-rule R1 3
-rule R2 5
+rule rule0 0
+rule rule1 3
+rule rule2 5
 17 1000000 fits ["window",0.7853981633974483]
 17 1000000 fits ["window",null]
 17 1000000 unfit [{"a":["window",1.570796326794897,-6],"b":{"a":null,"method":0,"type":1.0},"type":[359.9,"x"]}]
@@ -1253,18 +1253,18 @@ rule R2 5
 19 1000000 fits -1.1
 19 1000000 unfit 0.3
 19 1000000 fits -2.5
-= R0 = (text / "tab")
+= rule0 = (text / "tab")
 text
 exactly tab
 either 0 1
-rule R0 2
+rule rule0 2
 3 1000000 fits "tab"
 3 1000000 fits "tab"
 3 1000000 unfit [[],null]
 3 1000000 fits "tab"
 3 1000000 fits "tab"
 3 1000000 fits ""
-= R0 = {? method: "window", ? (? a: number)} R1 = {(? b: [*(float .lt 0.3)] // ? method: [7, bool])} R2 = ({"x~y": int, method: 7, ? a: null} / (uint / {"p/q": number, "x~y": 0.0...360.0, b: "tab", * text => text}))
+= rule0 = {? method: "window", ? (? a: number)} rule1 = {(? b: [*(float .lt 0.3)] // ? method: [7, bool])} rule2 = ({"x~y": int, method: 7, ? a: null} / (uint / {"p/q": number, "x~y": 0.0...360.0, b: "tab", * text => text}))
 map - ?method:11 ?a:12
 map - ?method:11
 either 0 1
@@ -1288,9 +1288,9 @@ exactly tab
 text
 number - (0.3
 bool
-rule R0 2
-rule R1 5
-rule R2 10
+rule rule0 2
+rule rule1 5
+rule rule2 10
 23 1000000 fits {"method":"window","a":-2.5}
 23 1000000 fits {}
 23 1000000 fits {"method":"window"}
@@ -1309,7 +1309,7 @@ rule R2 10
 25 1000000 unfit {"more":{"more":["tab",360,0.29999],"method":[]}}
 25 1000000 fits {"x~y":-1,"method":7}
 25 1000000 fits {"x~y":7,"a":null,"method":7}
-= R0 = {"p/q": (0.1..2.0 / 0..1.5707963267948966), ? method: [(float .lt 0.3), -5..5, true], b: {b: number, "p/q": text}} R1 = number R2 = "window"
+= rule0 = {"p/q": (0.1..2.0 / 0..1.5707963267948966), ? method: [(float .lt 0.3), -5..5, true], b: {b: number, "p/q": text}} rule1 = number rule2 = "window"
 map - !p/q:5 ?method:6 !b:7
 number - -
 exactly window
@@ -1322,9 +1322,9 @@ number - (0.3
 whole -5 5
 true
 text
-rule R0 0
-rule R1 1
-rule R2 2
+rule rule0 0
+rule rule1 1
+rule rule2 2
 12 1000000 unfit {"a":0.1,"p/q":2.0}
 12 1000000 unfit 0.3
 12 1000000 unfit {"p/q":0.7853981633974483,"b":{"p/q":"tab","b":-2.5,"more":1}}
@@ -1343,10 +1343,10 @@ rule R2 2
 14 1000000 fits "window"
 14 1000000 unfit [[[10,-5]],"window"]
 14 1000000 fits "window"
-= R0 = uint R1 = R0
+= rule0 = uint rule1 = rule0
 whole 0 18446744073709551615
-rule R0 0
-rule R1 0
+rule rule0 0
+rule rule1 0
 1 1000000 fits 0
 1 1000000 fits 11
 1 1000000 fits 11
@@ -1359,7 +1359,7 @@ rule R1 0
 2 1000000 unfit 0.5
 2 1000000 unfit {"b":{},"p/q":["x",1e0],"a":-6}
 2 1000000 unfit 1.5707963267948966
-= R0 = [R0] R1 = [*[[2*bool], {(? "p/q": 0..1.5707963267948966 // type: null, ? method: bool), * text => any}]]
+= rule0 = [rule0] rule1 = [*[[2*bool], {(? "p/q": 0..1.5707963267948966 // type: null, ? method: bool), * text => any}]]
 tuple 0
 list 0 2
 tuple 3 6
@@ -1371,8 +1371,8 @@ bool
 number [0 [1.5707963267948966
 any
 null
-rule R0 0
-rule R1 1
+rule rule0 0
+rule rule1 1
 11 1000000 unfit [[[[[359.9]]]]]
 11 1000000 unfit [[[[[1.0]]]]]
 11 1000000 unfit [[[[[7]]]]]
@@ -1385,16 +1385,16 @@ rule R1 1
 12 1000000 fits []
 12 1000000 fits []
 12 1000000 fits [[[true,true],{"method":false,"type":null}]]
-= R0 = {type: {? "x~y": 0..1.5707963267948966, * text => int}} R1 = "tab" R2 = "window"
+= rule0 = {type: {? "x~y": 0..1.5707963267948966, * text => int}} rule1 = "tab" rule2 = "window"
 map - !type:3
 exactly tab
 exactly window
 map 5 ?x~y:4
 number [0 [1.5707963267948966
 whole -18446744073709551616 18446744073709551615
-rule R0 0
-rule R1 1
-rule R2 2
+rule rule0 0
+rule rule1 1
+rule rule2 2
 6 1000000 fits {"type":{"more":7}}
 6 1000000 unfit [360,"window"]
 6 1000000 fits {"type":{"x~y":1.5707963267948966}}
@@ -1413,20 +1413,20 @@ rule R2 2
 8 1000000 fits "window"
 8 1000000 fits "window"
 8 1000000 fits "window"
-= R0 = 7
+= rule0 = 7
 whole 7 7
-rule R0 0
+rule rule0 0
 1 1000000 fits 7
 1 1000000 unfit 8
 1 1000000 unfit 6
 1 1000000 unfit 6
 1 1000000 fits 7
 1 1000000 fits 7
-= R0 = number R1 = 0.1..2.0
+= rule0 = number rule1 = 0.1..2.0
 number - -
 number [0.1 [2.0
-rule R0 0
-rule R1 1
+rule rule0 0
+rule rule1 1
 2 1000000 fits -2.0
 2 1000000 unfit {"b":0.1,"method":false,"p/q":1.5707963267948966}
 2 1000000 fits -2.0
