@@ -1,0 +1,11 @@
+pub mod Bytes
+pub mod Sizes
+pub mod Token
+pub mod Tokens
+pub mod Node
+pub mod Reads
+pub mod Steps
+pub mod Definition
+pub mod Adding
+pub mod Reading
+pub mod Place
