@@ -16,6 +16,8 @@ import sys
 import tempfile
 from pathlib import Path
 
+import options
+
 ROOT = Path(__file__).resolve().parent.parent
 HELLO = ROOT / "crates/hello/src/main.rt"
 DOCUMENTS = ["README.md", "docs/TESTING.md", "docs/CHECKING.md"]
@@ -109,7 +111,8 @@ def document(name, environment):
 
 
 def main():
-    program, names = os.path.abspath(sys.argv[1]), sys.argv[2:] or [it for it in DOCUMENTS if (ROOT / it).exists()]
+    asked = options.program_and_names(__doc__, "DOCUMENT")
+    program, names = os.path.abspath(asked.program), asked.names or [it for it in DOCUMENTS if (ROOT / it).exists()]
     with tempfile.TemporaryDirectory() as folder:
         stand_in = Path(folder) / "bidi"
         stand_in.write_text(STAND_IN.format(program=f"'{program}'"))

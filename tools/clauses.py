@@ -8,6 +8,7 @@
 """
 import sys
 
+import options
 import sources
 
 HEAD = """\
@@ -47,9 +48,14 @@ def missing():
     return [(call, kind) for call, kind, says, clause in every if clause and not says]
 
 
-if "--missing" in sys.argv:
-    found = missing()
-    for call, kind in found:
-        print(f"{call.path.relative_to(sources.ROOT)}: {call.title}: {kind}")
-    sys.exit(f"clauses: {len(found)} without a sentence" if found else 0)
-sources.page("CLAUSES.md", "\n".join([HEAD, *(line for crate in sources.libraries() for line in table(crate))]) + "\n", sys.argv)
+def main():
+    mode = options.one_of(__doc__, "write", "check", "missing")
+    if mode == "missing":
+        found = missing()
+        for call, kind in found:
+            print(f"{call.path.relative_to(sources.ROOT)}: {call.title}: {kind}")
+        sys.exit(f"clauses: {len(found)} without a sentence" if found else 0)
+    sources.page("CLAUSES.md", "\n".join([HEAD, *(line for crate in sources.libraries() for line in table(crate))]) + "\n", mode)
+
+
+main()

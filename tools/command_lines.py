@@ -11,6 +11,8 @@ import sys
 import tempfile
 from pathlib import Path
 
+import options
+
 VERSION = "bidi 0.1.0, profile P2\n"
 TRY = "\n\nFor more information, try '--help'.\n"
 PLAIN = "open 1 /session\n"
@@ -78,7 +80,7 @@ def run(program, folder, words, text=""):
 
 
 def main():
-    program, wrong = os.path.abspath(sys.argv[1]), []
+    program, wrong = os.path.abspath(options.program_and_names(__doc__).program), []
     with tempfile.TemporaryDirectory() as folder:
         for name, data in FILES.items():
             Path(folder, name).write_bytes(data)

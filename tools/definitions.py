@@ -10,6 +10,7 @@
 import sys
 from itertools import groupby
 
+import options
 import sources
 
 HEAD = """\
@@ -75,8 +76,13 @@ def missing():
             yield f"{path.relative_to(sources.ROOT)}: the file's subject"
 
 
-if "--missing" in sys.argv:
-    found = list(missing())
-    print(*found, sep="\n")
-    sys.exit(f"definitions: {len(found)} without a sentence" if found else 0)
-sources.page("DEFINITIONS.md", made(), sys.argv)
+def main():
+    mode = options.one_of(__doc__, "write", "check", "missing")
+    if mode == "missing":
+        found = list(missing())
+        print(*found, sep="\n")
+        sys.exit(f"definitions: {len(found)} without a sentence" if found else 0)
+    sources.page("DEFINITIONS.md", made(), mode)
+
+
+main()

@@ -9,6 +9,8 @@ import subprocess
 import sys
 from pathlib import Path
 
+import options
+
 EXAMPLES = Path(__file__).resolve().parent.parent / "examples"
 # The words of the program for an input, by what its output is called, and the status with which the program ends.
 RUNS = [
@@ -34,7 +36,7 @@ def fault(program, source, words, wanted, status):
 
 
 def main():
-    program, told, count, used = sys.argv[1], [], 0, set()
+    program, told, count, used = options.program_and_names(__doc__).program, [], 0, set()
     for suffix, words, out, status in RUNS:
         for source in sorted(EXAMPLES.glob("*" + suffix)):
             wanted = source.with_suffix(out)

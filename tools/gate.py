@@ -4,15 +4,18 @@
 First come the checks of texts, which take seconds; if one fails, nothing else is run. Then `rt ci` proves every crate from nothing,
 tries the must-fail edits, and runs the tests and the programs. The last steps run the program that it built. A step that
 fails prints a line `FAILED: WHAT` below its own output, and the status is then 1, or that of `rt ci`. At the end stand the seconds
-of each kind of step, and as the last line that of `rt ci`.
+of each kind of step. The last line is `N passed, M failed`: the counts of `rt ci`, and those of the steps.
 """
 import os
+import re
 import shutil
 import subprocess
 import sys
 import time
 from collections import Counter
 from pathlib import Path
+
+import options
 
 ROOT = Path(__file__).resolve().parent.parent
 BIDI = ROOT / "crates/bidi/out/bidi"
@@ -25,6 +28,11 @@ TEXTS = [
     ("texts", "tools/theorems.py --check"),
     ("texts", "tools/profile.py"),
     ("texts", "tools/picture.py --check"),
+    ("texts", "tools/edits.py --check"),
+    ("texts", "tools/grammars.py --check"),
+    ("texts", "tools/links.py"),
+    ("texts", "tools/limits.py"),
+    ("texts", "tools/drift_test.py"),
     ("texts", "tools/look_test.py"),
     ("texts", "tools/rows_of_log_test.py"),
     ("texts", "tools/release_test.py"),
@@ -43,27 +51,33 @@ TRIALS = ROOT / "crates/trials"
 WORDS = [("bench tree 100", os.devnull, "bench.out"), ("refusals", TRIALS / "refusals.in", "refusals.out")]
 NODE_SUITES = [f"examples/clients/node/{name}.test.js" for name in ("host", "faults", "fixture")]
 NODE_PATH = "/usr/share/nodejs"
-seconds = Counter()
+seconds, ended = Counter(), Counter()
+
+
+def count(kind, began, fails):
+    """Counts a step that began then, and gives 1 if it fails."""
+    seconds[kind] += time.monotonic() - began
+    ended["failed" if fails else "passed"] += 1
+    return 1 if fails else 0
 
 
 def run(kind, words, **variables):
-    """Runs a step, and gives its status."""
+    """Runs a step, and gives 1 if it fails."""
     began = time.monotonic()
     environment = {key: value for key, value in os.environ.items() if key != "BIDI"} | variables
     status = subprocess.run(words, cwd=ROOT, env=environment).returncode
-    seconds[kind] += time.monotonic() - began
     if status:
         print("FAILED:", *words[1:] if words[0] == sys.executable else words, flush=True)
-    return status
+    return count(kind, began, status)
 
 
 def steps(every):
     """Runs these steps, and gives 1 if one of them fails."""
-    return max([run(kind, [sys.executable, *words.split()]) != 0 for kind, words in every])
+    return max([run(kind, [sys.executable, *words.split()]) for kind, words in every])
 
 
 def prove():
-    """Runs `rt ci`, a check for each processor, and gives its status and its last line."""
+    """Runs `rt ci`, a check for each processor, adds what its last line counts, and gives its status."""
     # Without RT_JOBS, `rt ci` leaves processors idle: it gives each check some three times the memory that any takes.
     began, last = time.monotonic(), ""
     environment = {**os.environ, "RT_JOBS": str(len(os.sched_getaffinity(0)))}
@@ -72,7 +86,11 @@ def prove():
             print(line, end="", flush=True)
             last = line
     seconds["rt ci"] = time.monotonic() - began
-    return ci.returncode, last
+    for number, word in re.findall(r"(\d+) (passed|failed)", last):
+        ended[word] += int(number)
+    if ci.returncode:
+        print("FAILED: rt ci", flush=True)
+    return ci.returncode
 
 
 def trials():
@@ -84,10 +102,9 @@ def trials():
                 ran = subprocess.run([program, *words.split()], stdin=file, capture_output=True)
             if ran.returncode or ran.stdout != (TRIALS / wanted).read_bytes():
                 wrong.append(f"{program.name} {words}")
-    seconds["trials"] += time.monotonic() - began
     for words in wrong:
         print("FAILED:", words, flush=True)
-    return 1 if wrong else 0
+    return count("trials", began, wrong)
 
 
 def can(*words, **variables):
@@ -107,20 +124,15 @@ def suites():
         print("not run: the suite for pytest needs a Python with pytest and websockets")
     if len(every) == len(pythons[:1]):
         print("not run: the suite for Node needs node, with ws or a WebSocket of its own")
-    return max([run("client suites", words, BIDI=str(BIDI), **variables) != 0 for words, variables in every], default=0)
+    return max([run("client suites", words, BIDI=str(BIDI), **variables) for words, variables in every], default=0)
 
 
 def main():
-    status, last = steps(TEXTS), ""
-    if not status:
-        status, last = prove()
-        if status:
-            print("FAILED: rt ci", flush=True)
-        else:
-            status = max(steps(PROGRAM), trials(), suites())
+    options.parser(__doc__).parse_args()
+    status = steps(TEXTS) or prove() or max(steps(PROGRAM), trials(), suites())
     print("seconds:", ", ".join(f"{kind} {time:.0f}" for kind, time in seconds.items()))
-    print(last, end="")
-    return int(status)
+    print(f"{ended['passed']} passed, {ended['failed']} failed")
+    return status
 
 
 if __name__ == "__main__":

@@ -114,6 +114,9 @@ def report(top, used):
 
 
 def main(words):
+    if words[:1] and words[0].startswith("-") and words[0] not in ("--watch", "--keep"):
+        print(f"gate_work.py: no option {words[0]}\n{__doc__}", file=sys.stderr)
+        return 2
     watch = words[:1] == ["--watch"]
     words = words[watch:]
     keep = None

@@ -11,6 +11,8 @@ import re
 import subprocess
 import sys
 
+import options
+
 MOST_LEVELS = 127
 BLANKS = b" \t\n\r"
 WORDS = {b"t": b"true", b"f": b"false", b"n": b"null"}
@@ -229,8 +231,12 @@ def some_text(rng):
 
 
 def main():
-    program, number, seed = sys.argv[1], int((sys.argv[2:] or [20000])[0]), int((sys.argv[3:] or [1])[0])
-    rng = random.Random(seed)
+    parser = options.parser(__doc__)
+    parser.add_argument("program", metavar="BIDI")
+    parser.add_argument("number", metavar="NUMBER", nargs="?", type=int, default=20000)
+    parser.add_argument("seed", metavar="SEED", nargs="?", type=int, default=1)
+    asked = parser.parse_args()
+    program, number, rng = asked.program, asked.number, random.Random(asked.seed)
     texts = [some_text(rng) for _ in range(number)]
     run = subprocess.run([program, "check", "--from", "remote", "--why", "-"], input=b"".join(text + b"\n" for text in texts), capture_output=True)
     told = dict(re.match(r"line (\d+): (.*)", line).groups() for line in run.stdout.decode().splitlines())

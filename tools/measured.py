@@ -14,6 +14,7 @@ import subprocess
 import sys
 import time
 
+import options
 import sources
 
 PAGE = sources.ROOT / "docs/MEASURED.md"
@@ -62,8 +63,11 @@ def of_gate(log):
 
 
 def main():
-    words, place, failed = sys.argv[1:], commit(), False
-    log = words[1] if words[:1] == ["--gate"] else None
+    parser = options.parser(__doc__)
+    parser.add_argument("--gate", metavar="LOG")
+    parser.add_argument("words", metavar="WORD", nargs="*")
+    asked, place, failed = parser.parse_args(), commit(), False
+    log, words = asked.gate, asked.words
     for head, command in BLOCK.findall(PAGE.read_text()):
         if command.endswith(GATE):
             printed = of_gate(log) if log else None

@@ -10,6 +10,8 @@ import re
 import sys
 from pathlib import Path
 
+import options
+
 TOP = Path(__file__).resolve().parent.parent
 PAGE = TOP / "docs" / "ARCHITECTURE.md"
 BLOCK = re.compile(r"(?<=^```text\n).*?(?=^```$)", re.M | re.S)
@@ -79,10 +81,14 @@ def picture():
     return "\n".join(parts)
 
 
-page = PAGE.read_text()
-if "--write" in sys.argv:
-    PAGE.write_text(BLOCK.sub(lambda _: picture(), page, count=1))
-elif "--check" in sys.argv:
-    sys.exit("docs/ARCHITECTURE.md: another picture" if BLOCK.search(page)[0] != picture() else 0)
-else:
-    print(picture(), end="")
+def main():
+    mode, page = options.one_of(__doc__, "write", "check"), PAGE.read_text()
+    if mode == "write":
+        PAGE.write_text(BLOCK.sub(lambda _: picture(), page, count=1))
+    elif mode == "check":
+        sys.exit("docs/ARCHITECTURE.md: another picture" if BLOCK.search(page)[0] != picture() else 0)
+    else:
+        print(picture(), end="")
+
+
+main()

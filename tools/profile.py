@@ -9,6 +9,7 @@ A line is printed for each difference, then a count; the status is 1 if there is
 import re
 import sys
 
+import options
 import sources
 
 FORMATS = (sources.ROOT / "docs/FORMATS.md").read_text()
@@ -152,6 +153,7 @@ def in_docs(names):
 
 
 def main():
+    options.parser(__doc__).parse_args()
     (rules, rows), (terms, term_rows, capped) = in_formats(), in_profile()
     told = [f"{name}: FORMATS.md has {rules.get(name)}\n{' ' * len(name)}  Profile.antt has {terms.get(name)}"
             for name in sorted(rules.keys() | terms.keys()) if rules.get(name) != terms.get(name)]

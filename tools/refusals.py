@@ -28,6 +28,8 @@ from collections import Counter, namedtuple
 from concurrent.futures import ThreadPoolExecutor
 from pathlib import Path
 
+import options
+
 ROOT = Path(__file__).resolve().parent.parent
 KINDS = {"s": "00000000-0001", "c": "00000000-0002", "r": "00000000-0003", "u": "00000001-0005", "h": "00000000-0006",
          "k": "00000000-0008"}
@@ -455,13 +457,16 @@ def all_rows(bench):
 
 
 def main():
-    words = sys.argv[1:]
-    named = {word: words[place + 1] for place, word in enumerate(words) if word in ("--trials", "--bidi")}
-    trials = named.get("--trials", ROOT / "crates/trials/out/trials")
-    bidi = named.get("--bidi", ROOT / "crates/bidi/out/bidi")
-    rows = short if "--short" in words else within_memory if "--memory" in words else all_rows
+    parser = options.parser(__doc__)
+    mode = parser.add_mutually_exclusive_group()
+    mode.add_argument("--short", dest="rows", action="store_const", const=short)
+    mode.add_argument("--memory", dest="rows", action="store_const", const=within_memory)
+    parser.add_argument("--trials", metavar="FILE", default=ROOT / "crates/trials/out/trials")
+    parser.add_argument("--bidi", metavar="FILE", default=ROOT / "crates/bidi/out/bidi")
+    asked = parser.parse_args()
+    rows = asked.rows or all_rows
     with tempfile.TemporaryDirectory() as folder:
-        bench = Bench(folder, trials, bidi)
+        bench = Bench(folder, asked.trials, asked.bidi)
         rows(bench)
         print(f"refusals: {bench.count} runs, {bench.problems} problems")
         sys.exit(bench.problems > 0)

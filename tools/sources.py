@@ -340,12 +340,12 @@ def link(path):
     return f"[{path.name}](../{path.relative_to(ROOT)})"
 
 
-def page(name, made, words):
-    """What a script does with the page that it makes: `--write` and `--check`; anything else prints it."""
+def page(name, made, mode):
+    """Writes the page that a script makes, compares it with the file, or prints it, as the script was asked to."""
     path = ROOT / "docs" / name
-    if "--write" in words:
+    if mode == "write":
         path.write_text(made)
-    elif "--check" in words and (not path.exists() or path.read_text() != made):
+    elif mode == "check" and (not path.exists() or path.read_text() != made):
         raise SystemExit(f"docs/{name} is not what its script makes: run it with --write")
-    elif "--check" not in words:
+    elif mode is None:
         print(made, end="")

@@ -14,6 +14,7 @@ import re
 import sys
 import textwrap
 
+import options
 import sources
 
 PAGE = sources.ROOT / "docs/THEOREMS.md"
@@ -80,13 +81,18 @@ def wrong_edits(page):
 
 
 def main():
-    if "--show" in sys.argv:
-        what = sys.argv[-1]
+    parser = options.parser(__doc__)
+    mode = parser.add_mutually_exclusive_group(required=True)
+    for name in ("--write", "--check"):
+        mode.add_argument(name, action="store_true")
+    mode.add_argument("--show", metavar="TEXT")
+    asked = parser.parse_args()
+    if what := asked.show:
         print(quote("rust" if re.search(r": |::|^[a-z_]+$", what) else "agda", what), end="")
         return
     page = PAGE.read_text()
     right = made(page)
-    if "--write" in sys.argv:
+    if asked.write:
         PAGE.write_text(right)
         return
     told = wrong_edits(page)

@@ -294,5 +294,6 @@ def write(file, name, *sizes):
 
 if __name__ == "__main__":
     if len(sys.argv) < 3 or sys.argv[1] not in WORKLOADS:
-        sys.exit(__doc__)
+        print(__doc__, file=sys.stderr)
+        sys.exit(2)
     write(sys.stdout, *sys.argv[1:])
